@@ -1,0 +1,10 @@
+pub mod formers
+pub mod Plain
+pub mod View
+pub mod Names
+pub mod Sound
+pub mod Levels
+pub mod Places
+pub mod Numbers
+pub mod Value
+pub mod Printed

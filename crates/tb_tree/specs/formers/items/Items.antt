@@ -1,0 +1,55 @@
+-- Where a list of items stores its items, so that a type may lead back to itself through the list.
+-- An item list is a list of its items and nothing else: its shape is their number.
+use mathlib.Core.Path.{◌≡◌, refl, sym}
+use mathlib.Core.List.{List, []}
+use mathlib.Core.Former.{Former, this, list, via, children}
+use base.Stored.{code_map}
+use denote.RattleType.{RattleType}
+use denote.HoleLaws.{Alike}
+use denote.HolePlaces.{Recodes, struct_places, laid}
+use denote.Hole.Carrier.{listed, list-listed}
+use denote.Hole.Fix.{over}
+use denote.Param.Weighed.{Weighed, w_list}
+use denote.Model.Placed.{view_places}
+use Rattle.std.specs.formers.vec.Vec as vec
+use Rattle.std.specs.declared.alloc.Global.{Global}
+use Rattle.std.specs.contracts.alloc.Global as heap
+use Rattle.std.specs.contracts.impls.GlobalAllocator.TheImpl.{ghosts}
+use Rattle.tb_tree.specs.declared.items.Items.TheInside.{Inside}
+use Rattle.tb_tree.specs.declared.items.Items.TheView.{view, invariant}
+use Rattle.tb_tree.specs.contracts.items.Items as rows
+use Rattle.tb_tree.specs.contracts.items.Items.TheInside as inside
+
+-- what contracts see is the list itself
+abbrev pub the_former : Former {0} → Former {0}
+the_former held = list held
+
+-- a list is larger than each of its items
+abbrev pub the_weighed : {held : Former {0}} → Weighed held → Weighed (the_former held)
+the_weighed weight = w_list weight
+
+-- a list may have no item
+pub the_empty : List ⊥
+the_empty = []
+
+-- the items in their order
+abbrev pub the_items : (X : Type 0) → List X → List X
+the_items X items = items
+
+pub the_items_listed : (X : Type 0) (items : List X) → listed _ (children (the_former this) X items) ≡ the_items X items
+the_items_listed X items = list-listed X items
+
+-- the one field is a `Vec` of the items
+abbrev stored : Former {0}
+stored = via (vec.the_former this Global) Inside (λ X s. s.items) (λ X v. record { items = v }) (λ X s. refl) (λ X v. refl)
+
+module _ (R S : RattleType) (h : R.Denot → S.Denot) where
+  pub the_places : Alike R S h → Alike (rows.the_row R) (rows.the_row S) ((the_former this).map R.Denot S.Denot h)
+  the_places alike =
+      view_places stored (list this) view (λ X Y k u. refl) (λ X u. refl) R.Denot S.Denot h (rows.the_row R).coded (rows.the_row S).coded
+      (invariant R.Denot) (invariant S.Denot) (λ u p q. refl) (λ u p q. refl) (λ u e. tt) (λ u e. tt)
+      (over (inside.the_row R)) (over (inside.the_row S))
+      (struct_places (inside.the_type R) (inside.the_type S) (vec.mapped h, tt) _ (λ d. refl) refl (laid _ _ _ (vec.the_places heap.the_row ghosts R S h alike), tt))
+
+  pub the_codes_placed : Recodes R S h → Recodes (rows.the_row R) (rows.the_row S) ((the_former this).map R.Denot S.Denot h)
+  the_codes_placed recodes items = sym (code_map R.coded.code S.coded.code h (λ x. sym (recodes x)) items)

@@ -1,0 +1,15 @@
+//! Documents as trees: elements with kids, attributes and texts, as ESIS lines give them.
+//!
+//! Every crate above speaks of documents by these types. A contract sees a node as a plain tree of
+//! `specs/`, a list type as its list, and knows of each `Tree` that its root is a sound element.
+#![tactic(auto)]
+
+mod bytes;
+mod items;
+mod node;
+mod tree;
+
+pub use bytes::Bytes;
+pub use items::Items;
+pub use node::{Kids, Node};
+pub use tree::Tree;
