@@ -1,0 +1,4 @@
+pub mod Elements
+pub mod Lines
+pub mod Spelled
+pub mod Calls
