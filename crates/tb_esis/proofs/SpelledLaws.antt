@@ -5,7 +5,8 @@ use Rattle.tb_tree.specs.Plain.{Plain, elem, attr, text, Plains, no_kids, kid, p
 use Rattle.tb_tree.specs.Names.{is_name}
 use Rattle.tb_esis.specs.Lines.{begins, named_line_of}
 use Rattle.tb_esis.specs.Spelled.{spelled, is_body, Spells}
-use Rattle.tb_esis.proofs.LineLaws.{named_line_of-line, named_line_of-some, same_pair}
+use Rattle.tb_tree.proofs.Steps.{same_pair}
+use Rattle.tb_esis.proofs.LineLaws.{named_line_of-line, named_line_of-some}
 
 -- the spelling of an element and its siblings, with what follows, line by line
 pub spelled-elem : (name : List ℕ) (kids more : Plains) (rest : List ℕ)

@@ -1,12 +1,8 @@
 -- What the reader cuts from the front of the lines that are left.
 use Rattle.std.specs.Prelude.{ℕ, Bool, false, List, [], ◌∷◌, Option, Some, None, if◌then◌else◌, ◌==◌, take, drop}
 use Rattle.std.specs.List.{prefix_len}
-use Rattle.std.specs.Option.{option_and_then}
+use Rattle.tb_tree.specs.Steps.{◌>>=◌}
 use Rattle.tb_tree.specs.Names.{is_name_byte}
-
-infixl 10 ◌>>=◌
-abbrev pub ◌>>=◌ : {A B : Type 0} → Option A → (A → Option B) → Option B
-o >>= f = option_and_then f o
 
 abbrev pub begins : ℕ → List ℕ → Bool
 begins lead [] = false

@@ -1,1 +1,4 @@
+pub mod Steps
+pub mod Fronts
 pub mod Views
+pub mod Numbering

@@ -1,4 +1,5 @@
 pub mod formers
+pub mod Steps
 pub mod Plain
 pub mod View
 pub mod Names

@@ -1,0 +1,2 @@
+-- Lemmas of the calls over whole texts.
+pub mod CallsLemmas

@@ -1,0 +1,23 @@
+-- The bytes at a front that pass a test.
+use Rattle.std.proofs.Common.{◌≡◌, ℕ, ◌+◌, suc, Bool, true, false, cond, List, [], ◌∷◌, ◌++◌, length, take, refl, arith}
+use Rattle.std.specs.List.{prefix_len, list_all}
+use Rattle.std.proofs.lemmas.Bool.{and_parts, and_from}
+
+-- the run of bytes that pass ends where one fails
+pub prefix_len-stop : (test : ℕ → Bool) (name : List ℕ) (b : ℕ) (rest : List ℕ) → list_all test name ≡ true → test b ≡ false → prefix_len test (name ++ b ∷ rest) ≡ length name
+prefix_len-stop test [] b rest all stop = rw stop refl
+prefix_len-stop test (c ∷ name) b rest all stop =
+    let parts = and_parts (test c) (list_all test name) all in
+    rw (parts.0, prefix_len-stop test name b rest parts.1 stop) (omega arith)
+
+taken : (test : ℕ → Bool) (b : ℕ) (bytes : List ℕ) (passes : Bool) → test b ≡ passes → list_all test (take (prefix_len test bytes) bytes) ≡ true
+    → list_all test (take (cond passes (1 + prefix_len test bytes) 0) (b ∷ bytes)) ≡ true
+taken test b bytes true e all =
+    let more : 1 + prefix_len test bytes ≡ suc (prefix_len test bytes) = omega arith in
+    rw more (and_from (test b) (list_all test (take (prefix_len test bytes) bytes)) e all)
+taken test b bytes false e all = refl
+
+-- all of the run passes
+pub take-prefix_len : (test : ℕ → Bool) (bytes : List ℕ) → list_all test (take (prefix_len test bytes) bytes) ≡ true
+take-prefix_len test [] = refl
+take-prefix_len test (b ∷ bytes) = taken test b bytes (test b) refl (take-prefix_len test bytes)

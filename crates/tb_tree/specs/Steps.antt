@@ -1,0 +1,8 @@
+-- Steps of a reader that may find nothing.
+use Rattle.std.specs.Prelude.{Option}
+use Rattle.std.specs.Option.{option_and_then}
+
+-- what the first step finds, handed to the next
+infixl 10 ◌>>=◌
+abbrev pub ◌>>=◌ : {A B : Type 0} → Option A → (A → Option B) → Option B
+o >>= f = option_and_then f o
