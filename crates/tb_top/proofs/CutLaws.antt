@@ -1,0 +1,194 @@
+-- A script is cut exactly where it is spelled.
+use Rattle.std.proofs.Common.{◌≡◌, ℕ, ◌+◌, ◌-◌, suc, ◌≤◌, ◌<◌, Bool, true, false, ◌&&◌, ◌||◌, cond, not, IsTrue, List, [], ◌∷◌, ◌++◌, length, take, drop, Option, Some, None, refl, sym, ap, ap₂, ◌∙◌, subst, arith, ◌==◌, eqb, nat_lt, nat_le, ◌⊎◌, inl, inr, eqb-true, append_assoc, length-append}
+use Rattle.std.specs.List.{prefix_len, list_all}
+use Rattle.std.specs.Str.{bytes_eq}
+use Rattle.std.proofs.lemmas.List.{take_at, drop_at, take-append-drop}
+use Rattle.std.proofs.lemmas.List.Folds.{length-prefix_len}
+use Rattle.std.proofs.lemmas.Slice.Eq.{bytes_eq-Decides}
+use Rattle.std.proofs.lemmas.Bool.{and_parts, and_from, or_parts, or_left, or_right, false≢true, not-true, ne_eqb, le-ltb, lt-ltb, ltb-true, ltb-false, eqb-false, leb-true, le-leb}
+use Rattle.tb_tree.proofs.Steps.{bind_some, guarded, kept, same_pair}
+use Rattle.tb_tree.proofs.Fronts.{prefix_len-stop, take-prefix_len}
+use Rattle.tb_top.specs.Names.{is_label, is_label_byte, is_query_name, starts_name, begins_name, goes_on, all_go_on}
+use Rattle.tb_top.specs.Cuts.{behind, before, cut_from, last_line, label_at, run, name_at}
+
+-- a text is itself
+pub bytes_eq-same : (text : List ℕ) → bytes_eq text text ≡ true
+bytes_eq-same text = (bytes_eq-Decides text text).1 refl
+
+pub bytes_eq-is : (a b : List ℕ) → bytes_eq a b ≡ true → a ≡ b
+bytes_eq-is a b e = (bytes_eq-Decides a b).0 e
+
+-- what stands behind a front, and before an end
+pub behind-front : (front rest : List ℕ) → behind front (front ++ rest) ≡ Some rest
+behind-front front rest = rw (take_at front rest (length front) refl, drop_at front rest (length front) refl, bytes_eq-same front) refl
+
+pub behind-some : (front text rest : List ℕ) → behind front text ≡ Some rest → text ≡ front ++ rest
+behind-some front text rest e =
+    let parts = kept (bytes_eq (take (length front) text) front) (drop (length front) text) rest e in
+    sym (take-append-drop (length front) text) ∙ ap₂ (λ a b. a ++ b) (bytes_eq-is (take (length front) text) front parts.0) parts.1
+
+pub before-end : (end rest : List ℕ) → before end (rest ++ end) ≡ Some rest
+before-end end rest =
+    let len : length (rest ++ end) - length end ≡ length rest = omega (arith, length-append rest end) in
+    rw (len, take_at rest end (length rest) refl, drop_at rest end (length rest) refl, bytes_eq-same end) refl
+
+pub before-some : (end text rest : List ℕ) → before end text ≡ Some rest → text ≡ rest ++ end
+before-some end text rest e =
+    let n = length text - length end in
+    let parts = kept (bytes_eq (drop n text) end) (take n text) rest e in
+    sym (take-append-drop n text) ∙ ap₂ (λ a b. a ++ b) parts.1 (bytes_eq-is (drop n text) end parts.0)
+
+-- no byte ends a line
+abbrev pub has_no_end : List ℕ → Bool
+has_no_end text = list_all (λ b. not (b == 10)) text
+
+pub last_line-none : (text : List ℕ) → has_no_end text ≡ true → last_line text ≡ None
+last_line-none [] h = refl
+last_line-none (b ∷ bs) h =
+    let parts = and_parts (not (b == 10)) (has_no_end bs) h in
+    rw (last_line-none bs parts.1, not-true (b == 10) parts.0) refl
+
+pub last_line-end : (front line : List ℕ) → has_no_end line ≡ true → last_line (front ++ 10 ∷ line) ≡ Some (front, line)
+last_line-end [] line h = rw (last_line-none line h) refl
+last_line-end (b ∷ front) line h = rw (last_line-end front line h) refl
+
+cut_later : (b : ℕ) (bs : List ℕ) (o : Option (List ℕ × List ℕ)) (front line : List ℕ)
+    → ((f l : List ℕ) → ◌≡◌ {A = Option (List ℕ × List ℕ)} o (Some (f, l)) → bs ≡ f ++ 10 ∷ l)
+    → ◌≡◌ {A = Option (List ℕ × List ℕ)} (cut_from b bs o) (Some (front, line)) → b ∷ bs ≡ front ++ 10 ∷ line
+cut_later b bs (Some cut) front line later e =
+    let same = same_pair (b ∷ cut.0) cut.1 front line e in
+    ap (λ t. b ∷ t) (later cut.0 cut.1 refl) ∙ ap₂ (λ f l. f ++ 10 ∷ l) same.0 same.1
+cut_later b bs None front line later e =
+    let parts = kept (b == 10) ([], bs) (front, line) e in
+    let same = same_pair [] bs front line (ap Some parts.1) in
+    ap₂ (λ c t. c ∷ t) (eqb-true b 10 parts.0) same.1 ∙ ap (λ f. f ++ 10 ∷ line) same.0
+
+pub last_line-some : (text front line : List ℕ) → ◌≡◌ {A = Option (List ℕ × List ℕ)} (last_line text) (Some (front, line)) → text ≡ front ++ 10 ∷ line
+last_line-some [] front line e = absurd (let d : ◌≡◌ {A = Option (List ℕ × List ℕ)} None (Some (front, line)) = e in cc)
+last_line-some (b ∷ bs) front line e = cut_later b bs (last_line bs) front line (λ f l h. last_line-some bs f l h) e
+
+-- a label at the front, where a byte follows that is none of its bytes
+pub label_at-label : (name : List ℕ) (b : ℕ) (rest : List ℕ) → IsTrue (is_label name) → is_label_byte b ≡ false
+    → label_at (name ++ b ∷ rest) ≡ Some (name, b ∷ rest)
+label_at-label name b rest labelled stop =
+    let outer = and_parts (list_all is_label_byte name && nat_lt 0 (length name)) (nat_le (length name) 64) labelled in
+    let inner = and_parts (list_all is_label_byte name) (nat_lt 0 (length name)) outer.0 in
+    let len = prefix_len-stop is_label_byte name b rest inner.0 stop in
+    let long = ne_eqb (length name) 0 (λ e. omega (arith, e, ltb-true 0 (length name) inner.1)) in
+    let short = le-ltb 64 (length name) (leb-true (length name) 64 outer.1) in
+    rw (len, long, short, take_at name (b ∷ rest) (length name) refl, drop_at name (b ∷ rest) (length name) refl) refl
+
+pub label_at-some : (text name rest : List ℕ) → ◌≡◌ {A = Option (List ℕ × List ℕ)} (label_at text) (Some (name, rest)) → (text ≡ name ++ rest) × IsTrue (is_label name)
+label_at-some text name rest e =
+    let n = prefix_len is_label_byte text in
+    let parts = guarded (n == 0 || nat_lt 64 n) (Some (take n text, drop n text)) (name, rest) e in
+    let sizes = or_parts (n == 0) (nat_lt 64 n) parts.0 in
+    let same = same_pair (take n text) (drop n text) name rest parts.1 in
+    let len : length name ≡ n = sym (ap length same.0) ∙ length-prefix_len is_label_byte text in
+    let all = subst (λ t. list_all is_label_byte t ≡ true) same.0 (take-prefix_len is_label_byte text) in
+    let some = lt-ltb 0 (length name) (omega (arith, len, eqb-false n 0 sizes.0)) in
+    let few = le-leb (length name) 64 (omega (arith, len, ltb-false 64 n sizes.1)) in (
+      sym (take-append-drop n text) ∙ ap₂ (λ a b. a ++ b) same.0 same.1,
+      and_from (list_all is_label_byte name && nat_lt 0 (length name)) (nat_le (length name) 64) (and_from (list_all is_label_byte name) (nat_lt 0 (length name)) all some) few,
+    )
+
+-- a byte that goes on with no name, whatever follows it
+pub record Stops (b : ℕ) : Type 0 where
+  pub starts_none : starts_name b ≡ false
+  pub goes_nowhere : (rest : List ℕ) → goes_on b rest ≡ false
+
+begins-append : (b : ℕ) (bs : List ℕ) (c : ℕ) (rest : List ℕ) → starts_name c ≡ false → begins_name (bs ++ c ∷ rest) ≡ begins_name bs
+begins-append b [] c rest stop = stop
+begins-append b (d ∷ bs) c rest stop = refl
+
+pub run-stop : (name : List ℕ) (b : ℕ) (rest : List ℕ) → all_go_on name ≡ true → Stops b → run (name ++ b ∷ rest) ≡ length name
+run-stop [] b rest all stop = rw (stop.goes_nowhere rest) refl
+run-stop (c ∷ name) b rest all stop =
+    let parts = and_parts (goes_on c name) (all_go_on name) all in
+    let same : goes_on c (name ++ b ∷ rest) ≡ goes_on c name = rw (begins-append c name b rest stop.starts_none) refl in
+    rw (same, parts.0, run-stop name b rest parts.1 stop) refl
+
+goes_on-start : (b : ℕ) (rest : List ℕ) → starts_name b ≡ true → goes_on b rest ≡ true
+goes_on-start b rest start = rw start refl
+
+pub name_at-name : (name : List ℕ) (b : ℕ) (rest : List ℕ) → IsTrue (is_query_name name) → Stops b → name_at (name ++ b ∷ rest) ≡ Some (name, b ∷ rest)
+name_at-name [] b rest named stop = absurd (false≢true named)
+name_at-name (c ∷ name) b rest named stop =
+    let parts = and_parts (starts_name c) (all_go_on name) named in
+    let all = and_from (goes_on c name) (all_go_on name) (goes_on-start c name parts.0) parts.1 in
+    let len = run-stop (c ∷ name) b rest all stop in
+    let text : List ℕ = c ∷ (name ++ b ∷ rest) in
+    let cut : name_at text ≡ Some (take (run text) text, drop (run text) text) = rw parts.0 refl in
+    cut ∙ rw (len, take_at (c ∷ name) (b ∷ rest) (length (c ∷ name)) refl, drop_at (c ∷ name) (b ∷ rest) (length (c ∷ name)) refl) refl
+
+starts-none : (c : ℕ) (cs : List ℕ) → goes_on c cs ≡ false → false ≡ starts_name c
+starts-none c cs e = grind (arith, or_parts)
+
+begins-none : (c : ℕ) (cs : List ℕ) (goes : Bool) → goes_on c cs ≡ goes → begins_name (take (cond goes (suc (run cs)) 0) (c ∷ cs)) ≡ starts_name c
+begins-none c cs true e = refl
+begins-none c cs false e = starts-none c cs e
+
+-- the run begins a name exactly where the text does
+begins-run : (bs : List ℕ) → begins_name (take (run bs) bs) ≡ begins_name bs
+begins-run [] = refl
+begins-run (c ∷ cs) = begins-none c cs (goes_on c cs) refl
+
+run_taken : (b : ℕ) (bs : List ℕ) (goes : Bool) → goes_on b bs ≡ goes → all_go_on (take (run bs) bs) ≡ true → all_go_on (take (cond goes (suc (run bs)) 0) (b ∷ bs)) ≡ true
+run_taken b bs true e all =
+    let same : goes_on b (take (run bs) bs) ≡ goes_on b bs = rw (begins-run bs) refl in
+    and_from (goes_on b (take (run bs) bs)) (all_go_on (take (run bs) bs)) (same ∙ e) all
+run_taken b bs false e all = refl
+
+-- all of the run goes on with a name
+pub take-run : (text : List ℕ) → all_go_on (take (run text) text) ≡ true
+take-run [] = refl
+take-run (b ∷ bs) = run_taken b bs (goes_on b bs) refl (take-run bs)
+
+run_named : (text : List ℕ) → begins_name text ≡ true → IsTrue (is_query_name (take (run text) text))
+run_named [] begins = absurd (false≢true begins)
+run_named (c ∷ cs) begins =
+    let goes = goes_on-start c cs begins in
+    rw goes (and_from (starts_name c) (all_go_on (take (run cs) cs)) begins (take-run cs))
+
+pub name_at-some : (text name rest : List ℕ) → ◌≡◌ {A = Option (List ℕ × List ℕ)} (name_at text) (Some (name, rest)) → (text ≡ name ++ rest) × IsTrue (is_query_name name)
+name_at-some text name rest e =
+    let parts = kept (begins_name text) (take (run text) text, drop (run text) text) (name, rest) e in
+    let same = same_pair (take (run text) text) (drop (run text) text) name rest (ap Some parts.1) in
+    (sym (take-append-drop (run text) text) ∙ ap₂ (λ a b. a ++ b) same.0 same.1, subst (λ t. IsTrue (is_query_name t)) same.0 (run_named text parts.0))
+
+-- A name has no line end.
+no_end : (test : ℕ → Bool) → test 10 ≡ false → (b : ℕ) → test b ≡ true → not (b == 10) ≡ true
+no_end test stop b passes = apart (b == 10) refl
+  where
+    apart : (same : Bool) → (b == 10) ≡ same → not same ≡ true
+    apart true e = absurd (false≢true (sym stop ∙ ap test (sym (eqb-true b 10 e)) ∙ passes))
+    apart false e = refl
+
+pub passed-no_end : (test : ℕ → Bool) → test 10 ≡ false → (name : List ℕ) → list_all test name ≡ true → has_no_end name ≡ true
+passed-no_end test stop [] all = refl
+passed-no_end test stop (b ∷ name) all =
+    let parts = and_parts (test b) (list_all test name) all in
+    and_from (not (b == 10)) (has_no_end name) (no_end test stop b parts.0) (passed-no_end test stop name parts.1)
+
+pub label-no_end : (name : List ℕ) → IsTrue (is_label name) → has_no_end name ≡ true
+label-no_end name labelled =
+    let outer = and_parts (list_all is_label_byte name && nat_lt 0 (length name)) (nat_le (length name) 64) labelled in
+    passed-no_end is_label_byte refl name (and_parts (list_all is_label_byte name) (nat_lt 0 (length name)) outer.0).0
+
+run-no_end : (name : List ℕ) → all_go_on name ≡ true → has_no_end name ≡ true
+run-no_end [] all = refl
+run-no_end (b ∷ name) all =
+    let parts = and_parts (goes_on b name) (all_go_on name) all in
+    and_from (not (b == 10)) (has_no_end name) (no_end (λ c. goes_on c name) refl b parts.0) (run-no_end name parts.1)
+
+pub name-no_end : (name : List ℕ) → IsTrue (is_query_name name) → has_no_end name ≡ true
+name-no_end [] named = refl
+name-no_end (b ∷ name) named =
+    let parts = and_parts (starts_name b) (all_go_on name) named in
+    and_from (not (b == 10)) (has_no_end name) (no_end starts_name refl b parts.0) (run-no_end name parts.1)
+
+pub has_no_end-append : (a b : List ℕ) → has_no_end a ≡ true → has_no_end b ≡ true → has_no_end (a ++ b) ≡ true
+has_no_end-append [] b p q = q
+has_no_end-append (c ∷ a) b p q =
+    let parts = and_parts (not (c == 10)) (has_no_end a) p in
+    and_from (not (c == 10)) (has_no_end (a ++ b)) parts.0 (has_no_end-append a b parts.1 q)

@@ -1,0 +1,13 @@
+use Rattle.std.proofs.Common.{◌≡◌, ◌+◌, ◌++◌, drop}
+use Rattle.tb_tree.specs.View.{plains_of}
+use Rattle.tb_tree.specs.Numbers.{counts}
+use Rattle.tb_top.specs.Pairs.{firsts_in}
+use Rattle.tb_top.proofs.matching.+firsts.Given as goal
+
+-- what is found and numbered so far, with what is left, makes the whole
+abbrev pub invariant-firsts_below-nodes : goal.invariant-firsts_below-nodes
+invariant-firsts_below-nodes l = record {
+  numbered : l.number + counts (plains_of (drop l.node-index l.nodes)) ≡ l.next + counts (plains_of l.nodes);
+  found : l.found.items ++ firsts_in l.first l.second l.number (plains_of (drop l.node-index l.nodes))
+      ≡ l.initial.found.items ++ firsts_in l.first l.second l.next (plains_of l.nodes);
+}

@@ -1,0 +1,12 @@
+pub mod Pattern
+pub mod Witness
+pub mod WitnessTree
+pub mod Answer
+pub mod Transcript
+pub mod Names
+pub mod FirstForm
+pub mod Status
+pub mod Calls
+pub mod Cuts
+pub mod Parts
+pub mod Pairs

@@ -1,0 +1,38 @@
+//! How a command ended.
+
+ghost use Rattle.std.specs.Prelude.{◌≡◌};
+
+/// How a command ended, in the order in which the causes are tried.
+#[derive(Clone, Copy, Debug, PartialEq, Eq)]
+pub enum Status {
+    /// The result is written.
+    Ok,
+    /// The words name no command.
+    Words,
+    /// The source failed.
+    ReadFault,
+    /// The sink failed while the result was written.
+    WriteFault,
+    /// There was no memory.
+    Memory,
+    /// The input isn't of the form that is built.
+    NotBuilt,
+}
+
+impl Status {
+    ghost use Rattle.tb_top.specs.Status.{code_of};
+
+    /// The number that the program ends with.
+    pub fn code(&self) -> u8
+        ensures { result ≡ code_of self.now }
+    {
+        match *self {
+            Status::Ok => 0,
+            Status::Words => 2,
+            Status::ReadFault => 3,
+            Status::WriteFault => 5,
+            Status::Memory => 6,
+            Status::NotBuilt => 9,
+        }
+    }
+}
