@@ -1,0 +1,198 @@
+//! The plain program that the proved one is timed against.
+//!
+//! It settles the same scripts by the same steps over the same data: read all of standard input,
+//! cut the script, read the body into a tree, collect the matches, append a witness tree for each,
+//! and write the transcript at once. `bench/run` compares the two outputs byte for byte.
+
+use std::fs::File;
+use std::io::{self, ErrorKind, Read, Write};
+use std::os::fd::AsFd;
+use std::process::ExitCode;
+
+// Bytes of a script, bytes that one read asks for, and elements that may be open at once, at most.
+const MOST_BYTES: usize = 67_108_864;
+const BUFFER: usize = 65_536;
+const MOST_LEVELS: u32 = 512;
+
+/// What a script names, and the lines of its document.
+struct Script<'a> {
+    name: &'a [u8],
+    body: &'a [u8],
+    document: &'a [u8],
+    first: &'a [u8],
+    second: &'a [u8],
+}
+
+/// A node of a document. These scripts have elements alone; the other two stand here so that a node
+/// is as wide as in the proved program.
+#[allow(dead_code)]
+enum Node {
+    Elem { name: Vec<u8>, kids: Vec<Node> },
+    Attr { name: Vec<u8>, value: Vec<u8> },
+    Text { value: Vec<u8> },
+}
+
+/// The numbers of two matched nodes, in document order from 1. No line shows them, but the proved
+/// program collects them, so the twin does too.
+#[allow(dead_code)]
+struct Match {
+    first: u32,
+    second: u32,
+}
+
+fn main() -> io::Result<ExitCode> {
+    let bytes = read_up_to_most(&mut io::stdin().lock())?;
+    let transcript = transcript_of(&bytes);
+    let status = if transcript.is_some() { 0 } else { 9 };
+    let output = transcript.unwrap_or(b"not-built\n".to_vec());
+    // `Stdout` buffers by lines and searches each piece for its last line end. All bytes are here
+    // already, so they go to the file itself, in one call.
+    File::from(io::stdout().as_fd().try_clone_to_owned()?).write_all(&output)?;
+    Ok(ExitCode::from(status))
+}
+
+/// The bytes up to the end, or more than `MOST_BYTES` where there are more.
+fn read_up_to_most(source: &mut impl Read) -> io::Result<Vec<u8>> {
+    let mut buffer = vec![0; BUFFER];
+    let mut bytes = Vec::new();
+    while bytes.len() <= MOST_BYTES {
+        match source.read(&mut buffer) {
+            Ok(0) => break,
+            Ok(count) => bytes.extend_from_slice(&buffer[..count]),
+            Err(error) if error.kind() == ErrorKind::Interrupted => {}
+            Err(error) => return Err(error),
+        }
+    }
+    Ok(bytes)
+}
+
+/// What the script is answered, or `None` where the bytes aren't of the form.
+fn transcript_of(bytes: &[u8]) -> Option<Vec<u8>> {
+    let script = script_of(bytes)?;
+    let (root, rest) = element(script.body, MOST_LEVELS)?;
+    if !rest.is_empty() {
+        return None;
+    }
+    let mut matches = Vec::new();
+    if script.name == script.document {
+        push_matches(&root, 1, &script, &mut matches);
+    }
+    Some(transcript(&script, &matches))
+}
+
+/// The parts of a script, whose body is any lines.
+fn script_of(text: &[u8]) -> Option<Script<'_>> {
+    let (name, rest) = label_at(text.strip_prefix(b"session\nload ")?)?;
+    let rest = rest.strip_prefix(b"\n")?.strip_suffix(b"\n.\n")?;
+    let end = rest.iter().rposition(|byte| *byte == b'\n')?;
+    let body = rest[..end].strip_suffix(b".\nquery")?;
+    let query = &rest[end + 1..];
+    let (document, rest) = label_at(query.strip_prefix(b"MATCH document(\"")?)?;
+    let (first, rest) = name_at(rest.strip_prefix(b"\") (//- ")?)?;
+    let (second, rest) = name_at(rest.strip_prefix(b" (//- ")?)?;
+    let is_short = text.len() <= MOST_BYTES && query.len() <= 65_535;
+    (is_short && rest == b"))").then_some(Script { name, body, document, first, second })
+}
+
+/// The name of a document at the front, and what follows.
+fn label_at(text: &[u8]) -> Option<(&[u8], &[u8])> {
+    let goes_on = |byte: &u8| byte.is_ascii_alphanumeric() || b"_.-".contains(byte);
+    let len = text.iter().take_while(|byte| goes_on(byte)).count();
+    (1..=64).contains(&len).then(|| text.split_at(len))
+}
+
+/// The name of an element in a query at the front, and what follows.
+fn name_at(text: &[u8]) -> Option<(&[u8], &[u8])> {
+    let goes_on = |at: usize| match text[at] {
+        b'0'..=b'9' | b'-' | b'.' => true,
+        b':' => begins_name(&text[at + 1..]),
+        _ => begins_name(&text[at..]),
+    };
+    let len = (0..text.len()).take_while(|at| goes_on(*at)).count();
+    begins_name(text).then(|| text.split_at(len))
+}
+
+fn begins_name(text: &[u8]) -> bool {
+    text.first().is_some_and(|byte| byte.is_ascii_alphabetic() || *byte == b'_' || *byte >= 128)
+}
+
+/// The element at the front, of at most `room` levels, and what follows it.
+fn element(bytes: &[u8], room: u32) -> Option<(Node, &[u8])> {
+    if room == 0 {
+        return None;
+    }
+    let (name, rest) = named_line(b'(', bytes)?;
+    let (kids, rest) = elements(rest, room - 1)?;
+    let (end, rest) = named_line(b')', rest)?;
+    let name = (name == end).then(|| name.to_vec())?;
+    Some((Node::Elem { name, kids }, rest))
+}
+
+/// The elements at the front, each of at most `room` levels, and what follows them.
+fn elements(bytes: &[u8], room: u32) -> Option<(Vec<Node>, &[u8])> {
+    let mut kids = Vec::new();
+    let mut rest = bytes;
+    while rest.first() == Some(&b'(') {
+        let (kid, behind) = element(rest, room)?;
+        kids.push(kid);
+        rest = behind;
+    }
+    Some((kids, rest))
+}
+
+/// The name in the line at the front, which begins with `lead`, and what follows the line.
+fn named_line(lead: u8, bytes: &[u8]) -> Option<(&[u8], &[u8])> {
+    let line = bytes.strip_prefix(&[lead])?;
+    let is_name_byte = |byte: u8| byte >= 33 && byte != 127 && byte != b'\\';
+    let len = line.iter().take_while(|byte| is_name_byte(**byte)).count();
+    let rest = line[len..].strip_prefix(b"\n")?;
+    (len > 0).then_some((&line[..len], rest))
+}
+
+/// Collects the matches whose first node is this one, which has that number, or stands below it.
+/// Answers the number of the node that follows them.
+fn push_matches(node: &Node, number: u32, script: &Script, out: &mut Vec<Match>) -> u32 {
+    let mut next = number + 1;
+    if let Node::Elem { name, kids } = node {
+        if name == script.first {
+            pair(kids, number, script.second, next, out);
+        }
+        for kid in kids {
+            next = push_matches(kid, next, script, out);
+        }
+    }
+    next
+}
+
+/// Collects the node numbered `first` with each element named `second` among the kids and below
+/// them. The first kid has the number `next`; answers that of the node that follows them.
+fn pair(kids: &[Node], first: u32, second: &[u8], mut next: u32, out: &mut Vec<Match>) -> u32 {
+    for kid in kids {
+        let number = next;
+        next += 1;
+        if let Node::Elem { name, kids } = kid {
+            if name == second {
+                out.push(Match { first, second: number });
+            }
+            next = pair(kids, first, second, next, out);
+        }
+    }
+    next
+}
+
+/// The answers to the load and to the query, and the history. The matched elements show no content,
+/// so all witness trees print the same lines.
+fn transcript(script: &Script, matches: &[Match]) -> Vec<u8> {
+    let Script { name, first, second, .. } = *script;
+    let opened = [b"(witness\n(".as_slice(), first, b"\n(", second, b"\n"].concat();
+    let closed = [b")".as_slice(), second, b"\n)", first, b"\n)witness\n"].concat();
+    let witness = [opened, closed].concat();
+    let count = format!(" at 1\n2 query front 1 trees {}\n", matches.len());
+    let mut out = [b"session 1\n1 load ".as_slice(), name, count.as_bytes()].concat();
+    for _ in matches {
+        out.extend_from_slice(&witness);
+    }
+    let history = b".\nend\nhistory 1\n1 session 1 change 1 load ".as_slice();
+    out.extend_from_slice(&[history, name, b"\nok\n"].concat());
+    out
+}
