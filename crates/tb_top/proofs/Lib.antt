@@ -5,3 +5,4 @@ pub mod PairLaws
 pub mod WitnessLaws
 pub mod NameLaws
 pub mod PieceLaws
+pub mod Completeness

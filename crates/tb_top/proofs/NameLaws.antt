@@ -1,12 +1,12 @@
 -- The name of a query is the name of an element, and so its witness trees are sound.
-use Rattle.std.proofs.Common.{◌≡◌, ℕ, ◌≤◌, Bool, true, false, ◌&&◌, ◌||◌, not, IsTrue, List, [], ◌∷◌, nat_le, ◌==◌, refl, sym, ap, ◌∙◌, arith}
+use Rattle.std.proofs.Common.{◌≡◌, ℕ, true, IsTrue, List, [], ◌∷◌, refl, arith}
 use Rattle.std.specs.List.{list_all}
-use Rattle.std.proofs.lemmas.Bool.{and_parts, and_from, or_cases, false≢true}
+use Rattle.std.proofs.lemmas.Bool.{and_parts, and_from, false≢true}
 use Rattle.std.proofs.lemmas.Bool.Decides.{nat_tests}
 use Rattle.tb_tree.specs.Plain.{no_kids, kid}
 use Rattle.tb_tree.specs.Names.{is_name, is_name_byte}
 use Rattle.tb_tree.specs.Sound.{are_sound}
-use Rattle.tb_top.specs.Names.{is_query_name, is_between, is_letter, starts_name, begins_name, goes_on, all_go_on}
+use Rattle.tb_top.specs.Names.{is_query_name, starts_name, goes_on, all_go_on}
 use Rattle.tb_top.specs.Pairs.{tree_of_names}
 
 starts-byte : (b : ℕ) → starts_name b ≡ true → is_name_byte b ≡ true

@@ -1,16 +1,15 @@
 -- The matches found by walking the tree are the witnesses of the query.
-use Rattle.std.proofs.Common.{◌≡◌, ℕ, ◌+◌, ◌<◌, Bool, true, false, ◌&&◌, cond, IsTrue, List, [], ◌∷◌, ◌++◌, length, get_or, drop, map, replicate, codes, refl, sym, ap, ap₂, ◌∙◌, subst, arith, append_assoc, append-nil}
-use Rattle.std.specs.List.{flat_map, filter, concat}
-use Rattle.std.specs.Str.{bytes_eq}
+use Rattle.std.proofs.Common.{◌≡◌, ℕ, ◌+◌, ◌<◌, List, ◌++◌, length, get_or, drop, map, sym, ap, ap₂, ◌∙◌, arith, append_assoc}
+use Rattle.std.specs.List.{flat_map}
 use Rattle.std.proofs.lemmas.List.{drop_more, map-append}
-use Rattle.std.proofs.lemmas.List.Concat.{flat_map-append, flat_map_single}
+use Rattle.std.proofs.lemmas.List.Concat.{flat_map-append}
 use Rattle.std.proofs.lemmas.List.Elements.{filter-append}
-use Rattle.tb_tree.specs.Plain.{Plain, elem, attr, text, Plains, no_kids, kid, kids_of}
+use Rattle.tb_tree.specs.Plain.{Plain, Plains, no_kids, kid, kids_of}
 use Rattle.tb_tree.specs.View.{plain_of, plains_of}
-use Rattle.tb_tree.specs.Numbers.{counts, count, Numbered, all_numbered}
+use Rattle.tb_tree.specs.Numbers.{counts, count, all_numbered}
 use Rattle.tb_tree.specs.declared.node.Node.{Node}
 use Rattle.tb_tree.proofs.Numbering.{counts-kid, all_numbered-kid}
-use Rattle.tb_top.specs.Pairs.{numbers_of, named, seconds_under, firsts_in}
+use Rattle.tb_top.specs.Pairs.{named, seconds_under, firsts_in}
 use Rattle.tb_top.specs.declared.matching.Match.{Match}
 
 -- the nodes of a name, of the first node and of the others

@@ -1,5 +1,5 @@
 -- The parts of a script of the first form are found exactly where they are spelled.
-use Rattle.std.proofs.Common.{◌≡◌, ℕ, ◌+◌, ◌≤◌, Bool, true, false, cond, IsTrue, List, [], ◌∷◌, ◌++◌, length, Option, Some, None, codes, refl, sym, ap, ap₂, ◌∙◌, subst, arith, nat_le, append_assoc, length-append}
+use Rattle.std.proofs.Common.{◌≡◌, ℕ, ◌≤◌, true, IsTrue, List, ◌∷◌, ◌++◌, length, Option, Some, None, codes, refl, sym, ap, ap₂, ◌∙◌, subst, arith, nat_le, append_assoc, length-append}
 use Rattle.std.specs.Str.{bytes_eq}
 use Rattle.std.proofs.lemmas.Bool.{le-leb, leb-true}
 use Rattle.tb_tree.specs.Plain.{Plain}
@@ -8,7 +8,7 @@ use Rattle.tb_tree.proofs.Steps.{bind_some, kept}
 use Rattle.tb_top.specs.Names.{is_label, is_query_name}
 use Rattle.tb_top.specs.Cuts.{behind, before, last_line, label_at, name_at, query_of, script_of}
 use Rattle.tb_top.specs.FirstForm.{Script, IsScript, IsForm, query_line, script_text}
-use Rattle.tb_top.proofs.CutLaws.{behind-front, behind-some, before-end, before-some, last_line-end, last_line-some, has_no_end, has_no_end-append, label-no_end, name-no_end, label_at-label, label_at-some, Stops, name_at-name, name_at-some, bytes_eq-is}
+use Rattle.tb_top.proofs.CutLaws.{behind-some, before-end, before-some, last_line-end, last_line-some, has_no_end, has_no_end-append, label-no_end, name-no_end, label_at-label, label_at-some, Stops, name_at-name, name_at-some, bytes_eq-is}
 
 blank_stops : Stops 32
 blank_stops = record { starts_none = refl; goes_nowhere = λ rest. refl }

@@ -1,7 +1,6 @@
 -- The witnesses of `(//- first (//- second))` are the pairs of those names, and each prints the same tree.
-use Rattle.std.proofs.Common.{◌≡◌, ℕ, ◌+◌, Bool, true, false, ◌&&◌, cond, IsTrue, List, [], ◌∷◌, ◌++◌, length, map, codes, Some, refl, sym, ap, ap₂, ◌∙◌, subst, arith, append_assoc, append-nil}
-use Rattle.std.specs.List.{flat_map, filter}
-use Rattle.std.specs.Str.{bytes_eq}
+use Rattle.std.proofs.Common.{◌≡◌, ℕ, ◌+◌, Bool, true, false, ◌&&◌, cond, List, [], ◌∷◌, ◌++◌, length, map, Some, refl, sym, ap, ap₂, ◌∙◌, arith}
+use Rattle.std.specs.List.{flat_map}
 use Rattle.std.proofs.lemmas.Bool.{false≢true}
 use Rattle.std.proofs.lemmas.List.{map-append, length-map}
 use Rattle.std.proofs.lemmas.List.Concat.{flat_map-append, flat_map_single}
@@ -10,7 +9,7 @@ use Rattle.tb_tree.specs.Printed.{printed_node}
 use Rattle.tb_tree.specs.Numbers.{Numbered, all_numbered}
 use Rattle.tb_top.specs.Pattern as pattern
 use Rattle.tb_top.specs.Pattern.{meets, Pattern, matching, Edges, no_edges, edge}
-use Rattle.tb_top.specs.Witness.{Witness, witness, Offers, no_offers, offer, Witnesses, no_witnesses, then_witness, each_alone, naive_witnesses, witnesses_at, choices, numbers_in}
+use Rattle.tb_top.specs.Witness.{Witness, witness, Offers, no_offers, offer, no_witnesses, then_witness, each_alone, naive_witnesses, witnesses_at, choices, numbers_in}
 use Rattle.tb_top.specs.WitnessTree.{witness_tree}
 use Rattle.tb_top.specs.Answer.{Answer, answer_of, below, two_names, lines_of}
 use Rattle.tb_top.proofs.CutLaws.{bytes_eq-is}

@@ -1,5 +1,5 @@
 -- What a pattern query is answered.
-use Rattle.std.specs.Prelude.{ℕ, Bool, true, false, Option, Some, None, List, [], length}
+use Rattle.std.specs.Prelude.{ℕ, true, false, Option, Some, None, List, [], length}
 use Rattle.std.specs.List.{flat_map}
 use Rattle.tb_tree.specs.Plain.{Plain}
 use Rattle.tb_tree.specs.Printed.{printed_node}

@@ -1,9 +1,9 @@
 -- What the reader of scripts cuts from a text.
-use Rattle.std.specs.Prelude.{ℕ, ◌-◌, Bool, true, false, ◌||◌, ◌==◌, nat_lt, nat_le, if◌then◌else◌, List, [], ◌∷◌, ◌++◌, length, take, drop, Option, Some, None, codes, cond, suc}
+use Rattle.std.specs.Prelude.{ℕ, ◌-◌, ◌||◌, ◌==◌, nat_lt, nat_le, if◌then◌else◌, List, [], ◌∷◌, length, take, drop, Option, Some, None, codes, suc}
 use Rattle.std.specs.List.{prefix_len}
 use Rattle.tb_tree.specs.Steps.{◌>>=◌}
 use Rattle.std.specs.Str.{bytes_eq}
-use Rattle.tb_top.specs.Names.{is_label_byte, starts_name, goes_on, begins_name}
+use Rattle.tb_top.specs.Names.{is_label_byte, goes_on, begins_name}
 use Rattle.tb_top.specs.FirstForm.{Script}
 
 -- what stands behind the front, and what stands before the end

@@ -1,5 +1,4 @@
 -- What a script that was read names.
-use Rattle.std.specs.Prelude.{List, ℕ}
 use Rattle.tb_top.specs.declared.script.Script as code
 use Rattle.tb_top.specs.FirstForm.{Script}
 

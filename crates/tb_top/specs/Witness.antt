@@ -1,5 +1,5 @@
 -- The naive witnesses of a pattern: every way to match it, by the pattern alone.
-use Rattle.std.specs.Prelude.{ℕ, ◌+◌, Bool, ◌&&◌, if◌then◌else◌, List, [], ◌∷◌, ◌++◌, map}
+use Rattle.std.specs.Prelude.{ℕ, ◌+◌, ◌&&◌, if◌then◌else◌, List, [], ◌∷◌, ◌++◌, map}
 use Rattle.std.specs.List.{flat_map}
 use Rattle.tb_tree.specs.Plain.{Plain, Plains, no_kids, kid, kids_of}
 use Rattle.tb_tree.specs.Numbers.{Numbered, kids_numbered, all_numbered}

@@ -1,5 +1,5 @@
 -- The tree that a witness prints as.
-use Rattle.std.specs.Prelude.{ℕ, Bool, true, false, List, [], ◌∷◌, ◌++◌, if◌then◌else◌, codes}
+use Rattle.std.specs.Prelude.{ℕ, Bool, true, false, List, [], ◌∷◌, ◌++◌, codes}
 use Rattle.tb_tree.specs.Plain.{Plain, elem, attr, text, Plains, no_kids, kid, joined_kids}
 use Rattle.tb_top.specs.Pattern.{Pattern, matching, Edges, no_edges, edge}
 use Rattle.tb_top.specs.Witness.{Witness, witness, Offers, no_offers, offer, Witnesses, no_witnesses, then_witness}

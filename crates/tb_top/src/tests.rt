@@ -1,8 +1,8 @@
 //! What no clause says: that a command is answered with ample memory, and the worked rows as bytes.
 
-use super::*;
 ghost use Rattle.std.specs.Prelude.{◌≤◌};
 
+use super::*;
 use std::alloc::{AllocError, Global};
 use std::test::Fail;
 use std::thread::Threads;

@@ -1,5 +1,5 @@
 -- The bytes are of the first form exactly where a script is found and its body is read as a tree.
-use Rattle.std.proofs.Common.{◌≡◌, ℕ, ◌+◌, ◌^◌, ◌<◌, ◌≤◌, sym, arith}
+use Rattle.std.proofs.Common.{ℕ, ◌+◌, ◌^◌, ◌<◌, ◌≤◌, sym, arith}
 use Rattle.tb_tree.specs.View.{plain_of}
 use Rattle.tb_top.specs.Parts.{parts_of}
 use Rattle.tb_top.proofs.ScriptLaws.{no_script, no_tree, script_of-some, body-shorter}

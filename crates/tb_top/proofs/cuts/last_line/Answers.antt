@@ -1,6 +1,6 @@
 -- The last line end is the first one that is met from the end.
-use Rattle.std.proofs.Common.{◌≡◌, ℕ, ◌+◌, ◌-◌, ◌<◌, ◌≤◌, true, List, [], ◌∷◌, ◌++◌, length, get_or, take, drop, Option, Some, None, refl, sym, ap, ap₂, ◌∙◌, subst, arith}
-use Rattle.std.proofs.lemmas.List.{drop_more, take-append-drop, take_all, take_rest}
+use Rattle.std.proofs.Common.{◌≡◌, ℕ, ◌+◌, ◌-◌, ◌≤◌, true, List, ◌∷◌, ◌++◌, length, get_or, take, drop, Some, refl, sym, ap, ◌∙◌, subst, arith}
+use Rattle.std.proofs.lemmas.List.{drop_more, take-append-drop, take_rest}
 use Rattle.tb_top.specs.Cuts.{last_line}
 use Rattle.tb_top.proofs.CutLaws.{has_no_end, last_line-end, last_line-none}
 use Rattle.tb_top.proofs.cuts.last_line.Goals as goal

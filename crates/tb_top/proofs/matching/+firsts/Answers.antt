@@ -1,7 +1,7 @@
 -- The matches of a list of nodes are those of each node, one after the other.
 use Rattle.std.proofs.Common.{arith}
 use Rattle.tb_top.specs.Pairs.{firsts_in}
-use Rattle.tb_top.proofs.PairLaws.{Walked, walked-more, firsts_in-kid}
+use Rattle.tb_top.proofs.PairLaws.{walked-more, firsts_in-kid}
 use Rattle.tb_top.proofs.matching.+firsts.Goals as goal
 
 pub firsts_below-nodes-preserved : goal.firsts_below-nodes-preserved

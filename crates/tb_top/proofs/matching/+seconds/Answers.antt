@@ -1,7 +1,7 @@
 -- The matches of a list of nodes are those of each node, one after the other.
 use Rattle.std.proofs.Common.{arith}
 use Rattle.tb_top.specs.Pairs.{seconds_under}
-use Rattle.tb_top.proofs.PairLaws.{Walked, walked-more, seconds_under-kid}
+use Rattle.tb_top.proofs.PairLaws.{walked-more, seconds_under-kid}
 use Rattle.tb_top.proofs.matching.+seconds.Goals as goal
 
 pub seconds_below-nodes-preserved : goal.seconds_below-nodes-preserved
