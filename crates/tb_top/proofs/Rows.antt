@@ -4,7 +4,8 @@ use Rattle.std.specs.List.{flat_map}
 use Rattle.std.specs.Fmt.{digits}
 use Rattle.tb_tree.specs.Plain.{Plain, elem, attr, text, no_kids, kid}
 use Rattle.tb_tree.specs.Printed.{printed_node}
-use Rattle.tb_top.specs.Pattern.{Name, AnyAttr, AnyText, Axis, Child, Descendant, Mark, One, Optional, Some, Any, Pattern, matching, Edges, no_edges, edge}
+use Rattle.tb_tree.specs.declared.node_test.Test.TheVariants.{Name, AnyAttr, AnyText}
+use Rattle.tb_top.specs.Pattern.{Axis, Child, Descendant, Mark, One, Optional, Some, Any, Pattern, matching, Edges, no_edges, edge}
 use Rattle.tb_top.specs.Witness.{naive_witnesses, numbers_in}
 use Rattle.tb_top.specs.WitnessTree.{witness_tree}
 use Rattle.tb_top.specs.FirstForm.{Script, script_text, transcript_of}

@@ -8,7 +8,9 @@ use Rattle.tb_tree.specs.Plain.{Plain, elem, attr, text, Plains, no_kids, kid, k
 use Rattle.tb_tree.specs.Printed.{printed_node}
 use Rattle.tb_tree.specs.Numbers.{Numbered, all_numbered}
 use Rattle.tb_top.specs.Pattern as pattern
-use Rattle.tb_top.specs.Pattern.{meets, Pattern, matching, Edges, no_edges, edge}
+use Rattle.tb_tree.specs.Meets.{meets}
+use Rattle.tb_tree.specs.declared.node_test.Test.TheVariants as test
+use Rattle.tb_top.specs.Pattern.{Pattern, matching, Edges, no_edges, edge}
 use Rattle.tb_top.specs.Witness.{Witness, witness, Offers, no_offers, offer, no_witnesses, then_witness, each_alone, naive_witnesses, witnesses_at, choices, numbers_in}
 use Rattle.tb_top.specs.WitnessTree.{witness_tree}
 use Rattle.tb_top.specs.Answer.{Answer, answer_of, below, two_names, lines_of}
@@ -38,22 +40,22 @@ one_edge below n kids = alone-each (flat_map (witnesses_at below) (all_numbered 
 
 -- the witnesses at nodes are those at the nodes of the name
 chosen : (name : List ℕ) (edges : Edges) (u : Numbered) (us : List Numbered) (meets : Bool)
-    → flat_map (witnesses_at (matching (pattern.Name name) (λ value. true) false edges)) us ≡ flat_map (λ v. map (witness v.number v.node) (choices edges v.number (kids_of v.node))) (named name us)
-    → cond (meets && true) (map (witness u.number u.node) (choices edges u.number (kids_of u.node))) [] ++ flat_map (witnesses_at (matching (pattern.Name name) (λ value. true) false edges)) us
+    → flat_map (witnesses_at (matching (test.Name name) (λ value. true) false edges)) us ≡ flat_map (λ v. map (witness v.number v.node) (choices edges v.number (kids_of v.node))) (named name us)
+    → cond (meets && true) (map (witness u.number u.node) (choices edges u.number (kids_of u.node))) [] ++ flat_map (witnesses_at (matching (test.Name name) (λ value. true) false edges)) us
     ≡ flat_map (λ v. map (witness v.number v.node) (choices edges v.number (kids_of v.node))) (cond meets (u ∷ named name us) (named name us))
 chosen name edges u us true e = ap (λ x. map (witness u.number u.node) (choices edges u.number (kids_of u.node)) ++ x) e
 chosen name edges u us false e = e
 
 at_name : (name : List ℕ) (edges : Edges) (us : List Numbered)
-    → flat_map (witnesses_at (matching (pattern.Name name) (λ value. true) false edges)) us ≡ flat_map (λ v. map (witness v.number v.node) (choices edges v.number (kids_of v.node))) (named name us)
+    → flat_map (witnesses_at (matching (test.Name name) (λ value. true) false edges)) us ≡ flat_map (λ v. map (witness v.number v.node) (choices edges v.number (kids_of v.node))) (named name us)
 at_name name edges [] = refl
-at_name name edges (u ∷ us) = chosen name edges u us (meets (pattern.Name name) u.node) (at_name name edges us)
+at_name name edges (u ∷ us) = chosen name edges u us (meets (test.Name name) u.node) (at_name name edges us)
 
 -- the offers of a node of the first name: each node of the second below it
 seconds : (second : List ℕ) (n : ℕ) (kids : Plains)
     → choices (below second no_edges) n kids ≡ map alone (map (λ v. witness v.number v.node no_offers) (named second (all_numbered (n + 1) kids)))
 seconds second n kids =
-    one_edge (matching (pattern.Name second) (λ value. true) false no_edges) n kids
+    one_edge (matching (test.Name second) (λ value. true) false no_edges) n kids
     ∙ ap (map alone) (at_name second no_edges (all_numbered (n + 1) kids) ∙ flat_map_single (λ v. witness v.number v.node no_offers) (named second (all_numbered (n + 1) kids)))
 
 pairs_of : (u : Numbered) (vs : List Numbered) → map alone (map (witness u.number u.node) (map alone (map (λ v. witness v.number v.node no_offers) vs))) ≡ map (λ v. paired u v) vs
@@ -72,7 +74,7 @@ collected second (u ∷ us) =
 
 pub pairs-naive : (first second : List ℕ) (root : Plain) → naive_witnesses (two_names first second) root ≡ pairs first second 1 (kid root no_kids)
 pairs-naive first second root =
-    one_edge (matching (pattern.Name first) (λ value. true) false (below second no_edges)) 0 (kid root no_kids)
+    one_edge (matching (test.Name first) (λ value. true) false (below second no_edges)) 0 (kid root no_kids)
     ∙ ap (map alone) (at_name first (below second no_edges) (all_numbered 1 (kid root no_kids)))
     ∙ collected second (named first (all_numbered 1 (kid root no_kids)))
 
@@ -94,7 +96,7 @@ pub matches-naive : (first second : List ℕ) (root : Plain) → map numbers_of 
 matches-naive first second root = numbers-outer second (named first (all_numbered 1 (kid root no_kids))) ∙ ap (map numbers_in) (sym (pairs-naive first second root))
 
 -- Each witness prints the same tree.
-one_tree : (first second : List ℕ) (n m : ℕ) (p q : Plain) → meets (pattern.Name first) p ≡ true → meets (pattern.Name second) q ≡ true
+one_tree : (first second : List ℕ) (n m : ℕ) (p q : Plain) → meets (test.Name first) p ≡ true → meets (test.Name second) q ≡ true
     → witness_tree (two_names first second) (alone (witness n p (alone (witness m q no_offers)))) ≡ tree_of_names first second
 one_tree first second n m (elem v vs) (elem w ws) e f = ap₂ tree_of_names (sym (bytes_eq-is first v e)) (sym (bytes_eq-is second w f))
 one_tree first second n m (elem v vs) (attr w z) e f = absurd (false≢true f)
@@ -108,12 +110,12 @@ text_of first second offers = printed_node (witness_tree (two_names first second
 abbrev same_text : List ℕ → List ℕ → Offers → List ℕ
 same_text first second _ = witness_text first second
 
-texts-inner : (first second : List ℕ) (u : Numbered) (vs : List Numbered) → meets (pattern.Name first) u.node ≡ true
+texts-inner : (first second : List ℕ) (u : Numbered) (vs : List Numbered) → meets (test.Name first) u.node ≡ true
     → flat_map (text_of first second) (map (λ v. paired u v) (named second vs)) ≡ flat_map (same_text first second) (map (λ v. paired u v) (named second vs))
 texts-inner first second u [] e = refl
-texts-inner first second u (v ∷ vs) e = with_test (meets (pattern.Name second) v.node) refl (texts-inner first second u vs e)
+texts-inner first second u (v ∷ vs) e = with_test (meets (test.Name second) v.node) refl (texts-inner first second u vs e)
   where
-    with_test : (b : Bool) → meets (pattern.Name second) v.node ≡ b
+    with_test : (b : Bool) → meets (test.Name second) v.node ≡ b
         → flat_map (text_of first second) (map (λ v. paired u v) (named second vs)) ≡ flat_map (same_text first second) (map (λ v. paired u v) (named second vs))
         → flat_map (text_of first second) (map (λ v. paired u v) (cond b (v ∷ named second vs) (named second vs))) ≡ flat_map (same_text first second) (map (λ v. paired u v) (cond b (v ∷ named second vs) (named second vs)))
     with_test true f h = ap₂ (λ a b. a ++ b) (ap printed_node (one_tree first second u.number v.number u.node v.node e f)) h
@@ -125,9 +127,9 @@ pairs_at second u = map (λ v. paired u v) (named second (all_numbered (u.number
 texts-outer : (first second : List ℕ) (us : List Numbered)
     → flat_map (text_of first second) (flat_map (pairs_at second) (named first us)) ≡ flat_map (same_text first second) (flat_map (pairs_at second) (named first us))
 texts-outer first second [] = refl
-texts-outer first second (u ∷ us) = with_test (meets (pattern.Name first) u.node) refl (texts-outer first second us)
+texts-outer first second (u ∷ us) = with_test (meets (test.Name first) u.node) refl (texts-outer first second us)
   where
-    with_test : (b : Bool) → meets (pattern.Name first) u.node ≡ b
+    with_test : (b : Bool) → meets (test.Name first) u.node ≡ b
         → flat_map (text_of first second) (flat_map (pairs_at second) (named first us)) ≡ flat_map (same_text first second) (flat_map (pairs_at second) (named first us))
         → flat_map (text_of first second) (flat_map (pairs_at second) (cond b (u ∷ named first us) (named first us))) ≡ flat_map (same_text first second) (flat_map (pairs_at second) (cond b (u ∷ named first us) (named first us)))
     with_test true e h =

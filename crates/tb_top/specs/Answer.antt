@@ -4,6 +4,7 @@ use Rattle.std.specs.List.{flat_map}
 use Rattle.tb_tree.specs.Plain.{Plain}
 use Rattle.tb_tree.specs.Printed.{printed_node}
 use Rattle.tb_top.specs.Pattern.{Mark, Pattern, matching, Edges, no_edges, edge}
+use Rattle.tb_tree.specs.declared.node_test.Test.TheVariants as test
 use Rattle.tb_top.specs.Pattern as pattern
 use Rattle.tb_top.specs.Witness.{Offers, naive_witnesses}
 use Rattle.tb_top.specs.WitnessTree.{witness_tree}
@@ -24,7 +25,7 @@ answer_of edges (Some root) = record { trees = length (naive_witnesses edges roo
 
 -- `(//- first (//- second))`
 abbrev pub below : List ℕ → Edges → Edges
-below name edges = edge pattern.Descendant pattern.One (matching (pattern.Name name) (λ value. true) false edges) no_edges
+below name edges = edge pattern.Descendant pattern.One (matching (test.Name name) (λ value. true) false edges) no_edges
 
 abbrev pub two_names : List ℕ → List ℕ → Edges
 two_names first second = below first (below second no_edges)

@@ -4,7 +4,8 @@ use Rattle.std.specs.List.{flat_map, filter}
 use Rattle.tb_tree.specs.Plain.{Plain, elem, Plains, no_kids, kid, kids_of}
 use Rattle.tb_tree.specs.Numbers.{Numbered, all_numbered}
 use Rattle.tb_tree.specs.Printed.{printed_node}
-use Rattle.tb_top.specs.Pattern.{meets, Name}
+use Rattle.tb_tree.specs.Meets.{meets}
+use Rattle.tb_tree.specs.declared.node_test.Test.TheVariants.{Name}
 use Rattle.tb_top.specs.declared.matching.Match.{Match}
 
 -- the two numbers of a match

@@ -1,25 +1,7 @@
 -- Annotated patterns, after TAX (Jagadish and others, VLDB Journal 2002) and tree logical classes
 -- (Paparizos and others, SIGMOD 2004).
-use Rattle.std.specs.Prelude.{ℕ, Bool, true, false, List}
-use Rattle.std.specs.Str.{bytes_eq}
-use Rattle.tb_tree.specs.Plain.{Plain, elem, attr, text}
-
--- `name`, `*`, `@name`, `@*`, `text()`
-pub data Test : Type 0 where
-  Name : List ℕ → Test
-  AnyElement : Test
-  AttrName : List ℕ → Test
-  AnyAttr : Test
-  AnyText : Test
-
--- elements of the name, all elements, attributes of the name, all attributes, all texts
-abbrev pub meets : Test → Plain → Bool
-meets (Name n) (elem name kids) = bytes_eq n name
-meets AnyElement (elem name kids) = true
-meets (AttrName n) (attr name value) = bytes_eq n name
-meets AnyAttr (attr name value) = true
-meets AnyText (text value) = true
-meets _ _ = false
+use Rattle.std.specs.Prelude.{ℕ, Bool, List}
+use Rattle.tb_tree.specs.declared.node_test.Test.{Test}
 
 -- `/` and `//`
 pub data Axis : Type 0 where

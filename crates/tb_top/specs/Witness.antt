@@ -4,7 +4,8 @@ use Rattle.std.specs.List.{flat_map}
 use Rattle.tb_tree.specs.Plain.{Plain, Plains, no_kids, kid, kids_of}
 use Rattle.tb_tree.specs.Numbers.{Numbered, kids_numbered, all_numbered}
 use Rattle.tb_tree.specs.Value.{value_of}
-use Rattle.tb_top.specs.Pattern.{Axis, Child, Descendant, Mark, One, Optional, Some, Any, Pattern, matching, Edges, no_edges, edge, meets}
+use Rattle.tb_top.specs.Pattern.{Axis, Child, Descendant, Mark, One, Optional, Some, Any, Pattern, matching, Edges, no_edges, edge}
+use Rattle.tb_tree.specs.Meets.{meets}
 
 mutual
   -- a matched node with its number, and what is offered for each edge

@@ -7,5 +7,6 @@ pub mod Sound
 pub mod Levels
 pub mod Places
 pub mod Numbers
+pub mod Meets
 pub mod Value
 pub mod Printed

@@ -18,6 +18,10 @@ abbrev pub plains : List Plain → Plains
 plains [] = no_kids
 plains (k ∷ ks) = kid k (plains ks)
 
+-- one node alone
+abbrev pub one : Plain → Plains
+one node = kid node no_kids
+
 -- the nodes as a list
 abbrev pub kids_listed : Plains → List Plain
 kids_listed no_kids = []

@@ -1,7 +1,13 @@
 //! Bytes that a document holds: names, values and texts.
 
-ghost use Rattle.std.specs.Prelude.{◌≡◌};
+ghost use Rattle.std.specs.Prelude.{◌≡◌, IfOk};
+ghost use Rattle.std.specs.Str.{bytes_eq};
+ghost use Rattle.std.specs.Cmp.Rules.{comparing, hashing};
+ghost use Rattle.std.specs.Hash as fed;
+ghost use Rattle.std.proofs.Common.{rules};
 
+use std::alloc::{AllocError, Global};
+use std::hash::{Hash, Hasher};
 use std::marker::Model;
 
 /// A `Vec` of bytes that contracts see as the list of them.
@@ -31,10 +37,41 @@ impl Bytes {
         self.items.as_slice()
     }
 
+    pub fn copy(&self, alloc: Global) -> Result<Self, AllocError>
+        ensures { IfOk result (λ bytes. bytes ≡ self.now) }
+    {
+        let items = self.items.as_slice().to_vec(alloc)?;
+        Ok(Bytes { items })
+    }
+
     pub fn into_vec(self) -> Vec<u8>
         ensures { result.items ≡ self }
     {
         let Bytes { items } = self;
         items
+    }
+}
+
+impl PartialEq for Bytes {
+    ghost eq = { bytes_eq };
+
+    ghost laws = { Prim.search (comparing, rules) };
+
+    fn eq(&self, other: &Bytes) -> bool {
+        self.items.as_slice() == other.items.as_slice()
+    }
+}
+
+impl Eq for Bytes {
+    ghost laws = { Prim.search (comparing, rules) };
+}
+
+impl Hash for Bytes {
+    ghost hash_input = { λ bytes. fed.slice fed.u8 bytes };
+
+    ghost respects_eq = { Prim.search (hashing, rules) };
+
+    fn hash<H: Hasher>(&self, state: &mut H) {
+        self.items.as_slice().hash(state);
     }
 }

@@ -7,9 +7,11 @@
 mod bytes;
 mod items;
 mod node;
+mod node_test;
 mod tree;
 
 pub use bytes::Bytes;
 pub use items::Items;
 pub use node::{Kids, Node};
+pub use node_test::Test;
 pub use tree::Tree;
