@@ -15,9 +15,11 @@ Reads lines None = (tree : Plain) → IsReadAs lines tree → ⊥
 -- the element at the front with what follows it, or none where no element stands there
 abbrev pub ReadsElement : ℕ → List ℕ → Option (Plain × List ℕ) → Type 0
 ReadsElement room bytes (Some found) = Spells room (kid found.0 no_kids) bytes found.1
-ReadsElement room bytes None = (node : Plain) (rest : List ℕ) → Spells room (kid node no_kids) bytes rest → ⊥
+ReadsElement room bytes None =
+    (node : Plain) (rest : List ℕ) → Spells room (kid node no_kids) bytes rest → ⊥
 
 -- all elements at the front with what follows them, which begins no element
 abbrev pub ReadsElements : ℕ → List ℕ → Option (Plains × List ℕ) → Type 0
 ReadsElements room bytes (Some found) = Spells room found.0 bytes found.1 × (begins 40 found.1 ≡ false)
-ReadsElements room bytes None = (nodes : Plains) (rest : List ℕ) → Spells room nodes bytes rest → begins 40 rest ≡ false → ⊥
+ReadsElements room bytes None =
+    (nodes : Plains) (rest : List ℕ) → Spells room nodes bytes rest → begins 40 rest ≡ false → ⊥

@@ -16,7 +16,8 @@ spelled (kid (text value) rest) = spelled rest
 -- elements alone with names, at most `room` of them inside each other
 abbrev pub is_body : ℕ → Plains → Bool
 is_body room no_kids = true
-is_body room (kid (elem name kids) rest) = nat_lt 0 room && is_name name && is_body (room - 1) kids && is_body room rest
+is_body room (kid (elem name kids) rest) =
+    nat_lt 0 room && is_name name && is_body (room - 1) kids && is_body room rest
 is_body room (kid (attr name value) rest) = false
 is_body room (kid (text value) rest) = false
 

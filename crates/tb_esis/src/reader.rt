@@ -30,7 +30,8 @@ pub fn read_plain(alloc: Global, lines: &[u8]) -> Result<Option<Tree>, AllocErro
 /// The element at the front, of at most `room` levels, and what follows it.
 #[cycle(reading)]
 fn element(alloc: Global, bytes: &[u8], room: u32) -> Result<Option<(Node, &[u8])>, AllocError>
-    ensures { IfOk result (λ read. ReadsElement room bytes.now (option_map (λ found. (plain_of found.0, found.1.now)) read)) }
+    ensures { IfOk result (λ read.
+        ReadsElement room bytes.now (option_map (λ found. (plain_of found.0, found.1.now)) read)) }
 {
     if room == 0 {
         return Ok(None);
@@ -59,7 +60,8 @@ fn elements(
     bytes: &[u8],
     room: u32,
 ) -> Result<Option<(Vec<Node>, &[u8])>, AllocError>
-    ensures { IfOk result (λ read. ReadsElements room bytes.now (option_map (λ found. (plains_of found.0.items, found.1.now)) read)) }
+    ensures { IfOk result (λ read.
+        ReadsElements room bytes.now (option_map (λ found. (plains_of found.0.items, found.1.now)) read)) }
 {
     let mut kids = Vec::new(alloc);
     let mut rest = bytes;

@@ -1,2 +1,3 @@
+-- Labels, and lists of items that have them.
 pub mod Span
 pub mod Lists

@@ -1,8 +1,10 @@
 -- The parts of a script of the first form are found exactly where they are spelled.
-use Rattle.std.proofs.Common.{◌≡◌, ℕ, ◌≤◌, true, IsTrue, List, ◌∷◌, ◌++◌, length, Option, Some, None, codes, refl, sym, ap, ap₂, ◌∙◌, subst, arith, nat_le, append_assoc, length-append}
+use Rattle.std.proofs.Common.{◌≡◌, ℕ, ◌≤◌, true, IsTrue, List, [], ◌∷◌, ◌++◌, length, Option, Some, None, codes, refl, sym, ap, ap₂, ◌∙◌, subst, arith, nat_le, append_assoc, length-append}
 use Rattle.std.specs.Str.{bytes_eq}
 use Rattle.std.proofs.lemmas.Bool.{le-leb, leb-true}
-use Rattle.tb_tree.specs.Plain.{Plain}
+use Rattle.tb_tree.specs.Plain.{Plain, Plains, no_kids, kid}
+use Rattle.tb_esis.proofs.BodyLaws.{reading-spells}
+use Rattle.tb_esis.proofs.SpelledLaws.{unique}
 use Rattle.tb_esis.specs.Elements.{IsReadAs}
 use Rattle.tb_tree.proofs.Steps.{bind_some, kept}
 use Rattle.tb_top.specs.Names.{is_label, is_query_name}
@@ -151,3 +153,15 @@ body-shorter bytes s is =
       length-append (s.body ++ codes ".\nquery") (codes "\n"),
       length-append s.body (codes ".\nquery"),
     )
+
+-- A script of the first form, and the tree of its body, are one.
+pub form-unique : (bytes : List ℕ) (s z : Script) (tree other : Plain) → IsForm bytes s tree → IsForm bytes z other → (s ≡ z) × (tree ≡ other)
+form-unique bytes s z tree other one two =
+    let both : ◌≡◌ {A = Option Script} (Some s) (Some z) =
+    sym (script_of-text s one.script) ∙ ap script_of (sym one.spelled ∙ two.spelled) ∙ script_of-text z two.script in
+    let same : s ≡ z = cc in
+    let first = reading-spells s.body tree one.reading in
+    let second = reading-spells z.body other two.reading in
+    let spelled = sym first.bytes_are ∙ ap (λ (x : Script). x.body) same ∙ second.bytes_are in
+    let kids : ◌≡◌ {A = Plains} (kid tree no_kids) (kid other no_kids) = (unique (kid tree no_kids) (kid other no_kids) 512 512 [] [] first.body second.body spelled refl refl).0 in
+    (same, cc)

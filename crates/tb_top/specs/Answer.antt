@@ -21,11 +21,13 @@ lines_of edges found = flat_map (λ offers. printed_node (witness_tree edges off
 -- no document
 abbrev pub answer_of : Edges → Option Plain → Answer
 answer_of edges None = record { trees = 0; lines = [] }
-answer_of edges (Some root) = record { trees = length (naive_witnesses edges root); lines = lines_of edges (naive_witnesses edges root) }
+answer_of edges (Some root) =
+    record { trees = length (naive_witnesses edges root); lines = lines_of edges (naive_witnesses edges root) }
 
 -- `(//- first (//- second))`
 abbrev pub below : List ℕ → Edges → Edges
-below name edges = edge pattern.Descendant pattern.One (matching (test.Name name) (λ value. true) false edges) no_edges
+below name edges =
+    edge pattern.Descendant pattern.One (matching (test.Name name) (λ value. true) false edges) no_edges
 
 abbrev pub two_names : List ℕ → List ℕ → Edges
 two_names first second = below first (below second no_edges)

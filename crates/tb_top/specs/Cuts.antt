@@ -8,10 +8,14 @@ use Rattle.tb_top.specs.FirstForm.{Script}
 
 -- what stands behind the front, and what stands before the end
 abbrev pub behind : List ℕ → List ℕ → Option (List ℕ)
-behind front text = if bytes_eq (take (length front) text) front then Some (drop (length front) text) else None
+behind front text =
+    if bytes_eq (take (length front) text) front then Some (drop (length front) text) else None
 
 abbrev pub before : List ℕ → List ℕ → Option (List ℕ)
-before end text = if bytes_eq (drop (length text - length end) text) end then Some (take (length text - length end) text) else None
+before end text =
+    if bytes_eq (drop (length text - length end) text) end
+    then Some (take (length text - length end) text)
+    else None
 
 -- the cut at a later line end, or at this byte where it is the last line end
 abbrev pub cut_from : ℕ → List ℕ → Option (List ℕ × List ℕ) → Option (List ℕ × List ℕ)

@@ -16,13 +16,19 @@ pub record Script : Type 0 where
   pub first : List ℕ
   pub second : List ℕ
 
+-- `MATCH document("document") (//- first (//- second))`
 abbrev pub query_line : List ℕ → List ℕ → List ℕ → List ℕ
 query_line document first second =
     codes "MATCH document(\"" ++ (document ++ (codes "\") (//- " ++ (first ++ (codes " (//- " ++ (second ++ codes "))")))))
 
+-- the body and the query line, with what stands between them
+abbrev pub script_lines : Script → List ℕ
+script_lines s = (s.body ++ codes ".\nquery") ++ codes "\n" ++ query_line s.document s.first s.second
+
+-- the whole script
 abbrev pub script_text : Script → List ℕ
 script_text s =
-    codes "session\nload " ++ (s.name ++ (codes "\n" ++ (((s.body ++ codes ".\nquery") ++ codes "\n" ++ query_line s.document s.first s.second) ++ codes "\n.\n")))
+    codes "session\nload " ++ (s.name ++ (codes "\n" ++ (script_lines s ++ codes "\n.\n")))
 
 -- names are names, and the query line has at most 65,535 bytes
 pub record IsScript (s : Script) : Type 0 where
@@ -45,5 +51,6 @@ document_of s tree = if bytes_eq s.name s.document then Some tree else None
 -- The transcript: the load is change 1, and the query is answered over it.
 abbrev pub transcript_of : Script → Plain → List ℕ
 transcript_of s tree =
-    session_part 1 (load_block 1 s.name 1 ++ query_block 2 1 (answer_of (two_names s.first s.second) (document_of s tree)))
+    session_part 1
+    (load_block 1 s.name 1 ++ query_block 2 1 (answer_of (two_names s.first s.second) (document_of s tree)))
     ++ history_part 1 (history_line 1 1 1 s.name)

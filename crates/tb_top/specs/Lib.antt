@@ -1,3 +1,5 @@
+-- Patterns and their witnesses, the transcript, scripts of the first form; then words of the private
+-- clauses; and last what the commands promise.
 pub mod Pattern
 pub mod Witness
 pub mod WitnessTree
@@ -5,8 +7,8 @@ pub mod Answer
 pub mod Transcript
 pub mod Names
 pub mod FirstForm
-pub mod Status
-pub mod Calls
 pub mod Cuts
 pub mod Parts
 pub mod Pairs
+pub mod Status
+pub mod Calls

@@ -56,7 +56,8 @@ abbrev mutual
   pub choices : Edges → ℕ → Plains → List Offers
   choices no_edges n kids = no_offers ∷ []
   choices (edge axis mark below edges) n kids =
-      flat_map (λ ws. map (offer ws) (choices edges n kids)) (offered mark (flat_map (witnesses_at below) (on_axis axis n kids)))
+      flat_map (λ ws. map (offer ws) (choices edges n kids))
+      (offered mark (flat_map (witnesses_at below) (on_axis axis n kids)))
 
 -- The witnesses over a document: those of the document node, whose number is 0 and whose one kid is
 -- the root.

@@ -4,13 +4,13 @@ use Rattle.tb_tree.specs.Plain.{Plain, elem, attr, text, Plains, no_kids, kid, j
 use Rattle.tb_top.specs.Pattern.{Pattern, matching, Edges, no_edges, edge}
 use Rattle.tb_top.specs.Witness.{Witness, witness, Offers, no_offers, offer, Witnesses, no_witnesses, then_witness}
 
--- Texts side by side join, and an empty text vanishes.
--- the kids behind a text
+-- the kids behind a text, which joins with a text that they begin with, and vanishes where it is empty
 abbrev pub behind_text : List ℕ → Plains → Plains
 behind_text value (kid (text more) rest) = kid (text (value ++ more)) rest
 behind_text [] rest = rest
 behind_text (b ∷ bs) rest = kid (text (b ∷ bs)) rest
 
+-- Texts side by side join, and an empty text vanishes.
 abbrev pub texts_joined : Plains → Plains
 texts_joined no_kids = no_kids
 texts_joined (kid (text value) rest) = behind_text value (texts_joined rest)
@@ -28,16 +28,19 @@ own true (text value) = no_kids
 -- attribute becomes an element named `@` and its name. A text stays a text.
 abbrev pub shown : Bool → Plain → Plains → Plain
 shown whole (elem name kids) inside = elem name (texts_joined (joined_kids (own whole (elem name kids)) inside))
-shown whole (attr name value) inside = elem (64 ∷ name) (texts_joined (joined_kids (own whole (attr name value)) inside))
+shown whole (attr name value) inside =
+    elem (64 ∷ name) (texts_joined (joined_kids (own whole (attr name value)) inside))
 shown whole (text value) inside = text value
 
 abbrev mutual
   pub tree_of : Pattern → Witness → Plain
-  tree_of (matching test holds whole edges) (witness number node given) = shown whole node (trees_of edges given)
+  tree_of (matching test holds whole edges) (witness number node given) =
+      shown whole node (trees_of edges given)
 
   -- edge after edge, the trees of the offered witnesses
   pub trees_of : Edges → Offers → Plains
-  trees_of (edge axis mark below edges) (offer ws others) = joined_kids (trees_of_all below ws) (trees_of edges others)
+  trees_of (edge axis mark below edges) (offer ws others) =
+      joined_kids (trees_of_all below ws) (trees_of edges others)
   trees_of (edge axis mark below edges) no_offers = no_kids
   trees_of no_edges _ = no_kids
 

@@ -28,12 +28,13 @@ pub fn settle<R: Threads + Sync, S: Source, K: Sink, G: Gate>(
     ensures { Settled words.now (record {
       left = S.left source.old;
       left_after = S.left source.new;
-      source = S.faults source.old;
-      source_after = S.faults source.new;
+      faults = S.faults source.old;
+      faults_after = S.faults source.new;
+    }) (record {
       held = K.held sink.old;
       held_after = K.held sink.new;
-      sink = K.faults sink.old;
-      sink_after = K.faults sink.new;
+      faults = K.faults sink.old;
+      faults_after = K.faults sink.new;
     }) result }
 {
     let _ = rt;
@@ -83,7 +84,12 @@ fn answer(alloc: Global, bytes: &[u8]) -> Result<Option<Vec<u8>>, AllocError>
 /// Writes the line that goes with a status, which stays as it is where the sink fails.
 fn tell<K: Sink>(sink: &mut K, line: &[u8], status: Status) -> Status
     ensures same { result ≡ status }
-    ensures told { Tells (K.held sink.old) (K.held sink.new) (K.faults sink.old) (K.faults sink.new) line.now }
+    ensures told { Tells (record {
+      held = K.held sink.old;
+      held_after = K.held sink.new;
+      faults = K.faults sink.old;
+      faults_after = K.faults sink.new;
+    }) line.now }
 {
     let _ = write_all(sink, line);
     status
@@ -91,7 +97,12 @@ fn tell<K: Sink>(sink: &mut K, line: &[u8], status: Status) -> Status
 
 /// Writes a result.
 fn publish<K: Sink>(sink: &mut K, text: &[u8]) -> Status
-    ensures { Published (K.held sink.old) (K.held sink.new) (K.faults sink.old) (K.faults sink.new) text.now result }
+    ensures { Published (record {
+      held = K.held sink.old;
+      held_after = K.held sink.new;
+      faults = K.faults sink.old;
+      faults_after = K.faults sink.new;
+    }) text.now result }
 {
     match write_all(sink, text) {
         Ok(()) => Status::Ok,

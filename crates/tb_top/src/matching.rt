@@ -96,7 +96,8 @@ fn seconds_of(
 ) -> Result<(), AllocError>
     requires few { number + 1 + counts (plains_of inside.now) < 2 ^ 32 }
     ensures { OnOk result (found.new.items
-        ≡ found.old.items ++ (if named then seconds_under number second.now (number + 1) (plains_of inside.now) else [])) }
+        ≡ found.old.items
+        ++ (if named then seconds_under number second.now (number + 1) (plains_of inside.now) else [])) }
 {
     if !named {
         return Ok(());

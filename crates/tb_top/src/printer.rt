@@ -2,6 +2,7 @@
 
 ghost use Rattle.std.specs.Prelude.{◌≡◌, ◌++◌, OnOk, IfOk, decimal, length};
 ghost use Rattle.std.specs.List.{flat_map};
+ghost use Rattle.tb_top.specs.Pairs.{answer_by};
 ghost use Rattle.tb_top.specs.Transcript.{load_block, answered_line, query_block, history_line};
 
 use crate::matching::Match;
@@ -43,8 +44,8 @@ pub fn push_query_block(
     witness: &[u8],
     text: &mut Vec<u8>,
 ) -> Result<(), AllocError>
-    ensures { OnOk result (text.new.items ≡ text.old.items ++ query_block number front
-        (record { trees = length found.now; lines = flat_map (λ m. witness.now) found.now })) }
+    ensures { OnOk result (text.new.items
+        ≡ text.old.items ++ query_block number front (answer_by witness.now found.now)) }
 {
     push_answered_line(number, front, found.len() as u64, text)?;
     push_witnesses(found, witness, text)?;
@@ -85,7 +86,8 @@ pub fn push_history_line(
     name: &[u8],
     text: &mut Vec<u8>,
 ) -> Result<(), AllocError>
-    ensures { OnOk result (text.new.items ≡ text.old.items ++ history_line number session change name.now) }
+    ensures { OnOk result
+        (text.new.items ≡ text.old.items ++ history_line number session change name.now) }
 {
     push_number(number, text)?;
     text.extend_from_slice(b" session ")?;

@@ -2,7 +2,8 @@
 
 ghost use Rattle.std.specs.Prelude.{◌≡◌};
 
-/// How a command ended, in the order in which the causes are tried.
+/// How a command ended. The causes are tried in the order words, reading, form, writing; want of memory
+/// may come in place of any of them before the first byte is written.
 #[derive(Clone, Copy, Debug, PartialEq, Eq)]
 pub enum Status {
     /// The result is written.

@@ -26,9 +26,11 @@ const NOT_ENDED: &[u8] =
 // Bytes that a source gives at a call, and that a sink takes.
 const STEP: usize = 16;
 
-fn words_of(alloc: Global, word: &str) -> Result<Vec<String>, AllocError> {
+fn words_of(alloc: Global, given: &[&str]) -> Result<Vec<String>, AllocError> {
     let mut words = Vec::new(alloc);
-    words.push(String::from_str(alloc, word)?)?;
+    for word in given {
+        words.push(String::from_str(alloc, word)?)?;
+    }
     Ok(words)
 }
 
@@ -36,14 +38,14 @@ fn words_of(alloc: Global, word: &str) -> Result<Vec<String>, AllocError> {
 fn settled<R: Threads + Sync>(
     rt: &R,
     alloc: Global,
-    word: &str,
+    words: &[&str],
     bytes: &[u8],
     step: usize,
     failing: (&[u64], &[u64]),
 ) -> Result<(Status, Vec<u8>), AllocError>
     requires { 1 ≤ step }
 {
-    let words = words_of(alloc, word)?;
+    let words = words_of(alloc, words)?;
     let mut source = MemSource::new(bytes.to_vec(alloc)?, step, failing.0.to_vec(alloc)?);
     let mut sink = MemSink::new(alloc, 4096, step, failing.1.to_vec(alloc)?)?;
     let status = settle(rt, alloc, &words, &mut source, &mut sink, &OpenGate);
@@ -52,20 +54,22 @@ fn settled<R: Threads + Sync>(
 
 #[test]
 fn each_row_has_its_status_and_its_bytes(rt: HostRuntime) -> Result<(), Fail> {
+    let single: &[&str] = &["single"];
+    let words: &[u8] = b"words\n";
+    let not_built: &[u8] = b"not-built\n";
     let rows = [
-        ("single", NESTED, Status::Ok, NESTED_TRANSCRIPT),
-        ("single", ELSEWHERE, Status::Ok, ELSEWHERE_TRANSCRIPT),
-        (
-            "single",
-            NOT_ENDED,
-            Status::NotBuilt,
-            b"not-built\n".as_slice(),
-        ),
-        ("run", NESTED, Status::Words, b"words\n".as_slice()),
+        (single, NESTED, Status::Ok, NESTED_TRANSCRIPT),
+        (single, ELSEWHERE, Status::Ok, ELSEWHERE_TRANSCRIPT),
+        (single, NOT_ENDED, Status::NotBuilt, not_built),
+        (single, b"", Status::NotBuilt, not_built),
+        (&["run"], NESTED, Status::Words, words),
+        (&["Single"], NESTED, Status::Words, words),
+        (&["single", "single"], NESTED, Status::Words, words),
+        (&[], NESTED, Status::Words, words),
     ];
-    for (word, bytes, status, output) in rows {
+    for (given, bytes, status, output) in rows {
         for step in [1, 4096] {
-            let (ended, held) = settled(&rt, rt.alloc(), word, bytes, step, (&[], &[]))?;
+            let (ended, held) = settled(&rt, rt.alloc(), given, bytes, step, (&[], &[]))?;
             assert_eq!(rt; ended, status);
             assert_eq!(rt; held.as_slice(), output);
         }
@@ -78,11 +82,18 @@ fn a_source_that_fails_at_any_call_is_a_read_fault(rt: HostRuntime) -> Result<()
     // The last call finds the end.
     let calls = NESTED.len().div_ceil(STEP) as u64 + 1;
     for call in 1..=calls {
-        let (ended, held) = settled(&rt, rt.alloc(), "single", NESTED, STEP, (&[call], &[]))?;
+        let (ended, held) = settled(&rt, rt.alloc(), &["single"], NESTED, STEP, (&[call], &[]))?;
         assert_eq!(rt; ended, Status::ReadFault, "at call {call}");
         assert_eq!(rt; held.as_slice(), b"read-fault\n".as_slice());
     }
-    let (ended, _) = settled(&rt, rt.alloc(), "single", NESTED, STEP, (&[calls + 1], &[]))?;
+    let (ended, _) = settled(
+        &rt,
+        rt.alloc(),
+        &["single"],
+        NESTED,
+        STEP,
+        (&[calls + 1], &[]),
+    )?;
     assert_eq!(rt; ended, Status::Ok);
     Ok(())
 }
@@ -91,7 +102,14 @@ fn a_source_that_fails_at_any_call_is_a_read_fault(rt: HostRuntime) -> Result<()
 fn a_sink_that_fails_at_any_call_holds_what_it_took(rt: HostRuntime) -> Result<(), Fail> {
     for (call, piece) in NESTED_TRANSCRIPT.chunks(STEP).enumerate() {
         let failing = call as u64 + 1;
-        let (ended, held) = settled(&rt, rt.alloc(), "single", NESTED, STEP, (&[], &[failing]))?;
+        let (ended, held) = settled(
+            &rt,
+            rt.alloc(),
+            &["single"],
+            NESTED,
+            STEP,
+            (&[], &[failing]),
+        )?;
         assert_eq!(rt; ended, Status::WriteFault, "at call {failing}");
         assert_eq!(rt; held.len(), call * STEP);
         assert!(rt; NESTED_TRANSCRIPT.starts_with(&held) && !piece.is_empty());
@@ -105,7 +123,7 @@ fn a_line_that_is_not_written_leaves_the_status(rt: HostRuntime) -> Result<(), F
         ("run", NESTED, Status::Words),
         ("single", NOT_ENDED, Status::NotBuilt),
     ] {
-        let (ended, held) = settled(&rt, rt.alloc(), word, bytes, 4, (&[], &[2]))?;
+        let (ended, held) = settled(&rt, rt.alloc(), &[word], bytes, 4, (&[], &[2]))?;
         assert_eq!(rt; ended, status);
         assert_eq!(rt; held.len(), 4);
     }
@@ -117,7 +135,7 @@ fn nothing_is_read_past_byte_67_108_865(rt: HostRuntime) -> Result<(), Fail> {
     let bytes = vec![in rt.alloc(); b'x'; NESTED.len() + 67_108_866]?;
     let mut source = MemSource::new(bytes, 1 << 16, Vec::new(rt.alloc()));
     let mut sink = MemSink::new(rt.alloc(), 64, 64, Vec::new(rt.alloc()))?;
-    let words = words_of(rt.alloc(), "single")?;
+    let words = words_of(rt.alloc(), &["single"])?;
     assert_eq!(rt;
         settle(&rt, rt.alloc(), &words, &mut source, &mut sink, &OpenGate),
         Status::NotBuilt

@@ -7,7 +7,7 @@ ghost use Rattle.tb_tree.specs.Numbers.{count};
 ghost use Rattle.tb_top.specs.Answer.{answer_of, two_names};
 ghost use Rattle.tb_top.specs.Transcript.{session_part, load_block, query_block, history_line, history_part};
 ghost use Rattle.tb_top.specs.FirstForm.{IsScript, document_of, transcript_of};
-ghost use Rattle.tb_top.specs.Pairs.{witness_text};
+ghost use Rattle.tb_top.specs.Pairs.{witness_text, answer_by};
 ghost use Rattle.tb_top.specs.Parts.{parts_of};
 
 use crate::matching::{Match, matches};
@@ -34,9 +34,9 @@ pub fn transcript(alloc: Global, script: &Script<'_>, tree: &Tree) -> Result<Vec
 /// The matches in the document that the query names, none where it wasn't loaded.
 fn found_in(alloc: Global, script: &Script<'_>, tree: &Tree) -> Result<Vec<Match>, AllocError>
     requires few { 1 + count (plain_of tree.now) < 2 ^ 32 }
-    ensures { IfOk result (λ found.
-        record { trees = length found.items; lines = flat_map (λ m. witness_text script.now.first.now script.now.second.now) found.items }
-        ≡ answer_of (two_names script.now.first.now script.now.second.now) (document_of (parts_of script.now) (plain_of tree.now))) }
+    ensures { let parts = parts_of script.now in IfOk result (λ found.
+        answer_by (witness_text parts.first parts.second) found.items
+        ≡ answer_of (two_names parts.first parts.second) (document_of parts (plain_of tree.now))) }
 {
     if script.name != script.document {
         return Ok(Vec::new(alloc));
@@ -51,8 +51,8 @@ fn push_session_part(
     witness: &[u8],
     text: &mut Vec<u8>,
 ) -> Result<(), AllocError>
-    ensures { OnOk result (text.new.items ≡ text.old.items ++ session_part 1 (load_block 1 name.now 1 ++ query_block 2 1
-        (record { trees = length found.now; lines = flat_map (λ m. witness.now) found.now }))) }
+    ensures { OnOk result (text.new.items ≡ text.old.items ++ session_part 1
+        (load_block 1 name.now 1 ++ query_block 2 1 (answer_by witness.now found.now))) }
 {
     text.extend_from_slice(b"session ")?;
     push_number(1, text)?;
@@ -64,7 +64,8 @@ fn push_session_part(
 }
 
 fn push_history_part(name: &[u8], text: &mut Vec<u8>) -> Result<(), AllocError>
-    ensures { OnOk result (text.new.items ≡ text.old.items ++ history_part 1 (history_line 1 1 1 name.now)) }
+    ensures { OnOk result
+        (text.new.items ≡ text.old.items ++ history_part 1 (history_line 1 1 1 name.now)) }
 {
     text.extend_from_slice(b"history ")?;
     push_number(1, text)?;

@@ -1,3 +1,4 @@
+-- Documents as plain data, from the node to what is said of it, and then its lines.
 pub mod formers
 pub mod Steps
 pub mod Plain

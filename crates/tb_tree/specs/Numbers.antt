@@ -13,6 +13,7 @@ counts (kid (text value) rest) = 1 + counts rest
 abbrev pub count : Plain → ℕ
 count node = counts (kid node no_kids)
 
+-- a node with its number
 pub record Numbered : Type 0 where
   pub number : ℕ
   pub node : Plain
@@ -26,6 +27,9 @@ kids_numbered n (kid node rest) = record { number = n; node = node } ∷ kids_nu
 abbrev pub all_numbered : ℕ → Plains → List Numbered
 all_numbered n no_kids = []
 all_numbered n (kid (elem name kids) rest) =
-    record { number = n; node = elem name kids } ∷ (all_numbered (n + 1) kids ++ all_numbered (n + 1 + counts kids) rest)
-all_numbered n (kid (attr name value) rest) = record { number = n; node = attr name value } ∷ all_numbered (n + 1) rest
-all_numbered n (kid (text value) rest) = record { number = n; node = text value } ∷ all_numbered (n + 1) rest
+    record { number = n; node = elem name kids }
+    ∷ (all_numbered (n + 1) kids ++ all_numbered (n + 1 + counts kids) rest)
+all_numbered n (kid (attr name value) rest) =
+    record { number = n; node = attr name value } ∷ all_numbered (n + 1) rest
+all_numbered n (kid (text value) rest) =
+    record { number = n; node = text value } ∷ all_numbered (n + 1) rest

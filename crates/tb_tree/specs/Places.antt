@@ -15,6 +15,7 @@ IsAncestor u v = (k : ℕ) × (rest : List ℕ) × (v ≡ u ++ k ∷ rest)
 abbrev pub Precedes : List ℕ → List ℕ → Type 0
 Precedes u v = slice_cmp nat_cmp u v ≡ Less
 
+-- a node with its place
 pub record Placed : Type 0 where
   pub place : List ℕ
   pub node : Plain
@@ -23,7 +24,8 @@ pub record Placed : Type 0 where
 abbrev pub placed_below : List ℕ → ℕ → Plains → List Placed
 placed_below at k no_kids = []
 placed_below at k (kid (elem name kids) rest) =
-    record { place = at ++ k ∷ []; node = elem name kids } ∷ (placed_below (at ++ k ∷ []) 0 kids ++ placed_below at (k + 1) rest)
+    record { place = at ++ k ∷ []; node = elem name kids }
+    ∷ (placed_below (at ++ k ∷ []) 0 kids ++ placed_below at (k + 1) rest)
 placed_below at k (kid (attr name value) rest) =
     record { place = at ++ k ∷ []; node = attr name value } ∷ placed_below at (k + 1) rest
 placed_below at k (kid (text value) rest) =

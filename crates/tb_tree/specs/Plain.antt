@@ -38,6 +38,7 @@ kids_of (elem name kids) = kids
 kids_of (attr name value) = no_kids
 kids_of (text value) = no_kids
 
+-- an element, no attribute and no text
 abbrev pub is_element : Plain → Bool
 is_element (elem name kids) = true
 is_element (attr name value) = false

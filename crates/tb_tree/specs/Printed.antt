@@ -11,8 +11,10 @@ octal b = 92 ∷ (48 + b / 64) ∷ (48 + b / 8 % 8) ∷ (48 + b % 8) ∷ []
 -- a byte in a value or in data: the backslash, the line end and other control bytes are escaped
 abbrev pub escaped_byte : ℕ → List ℕ
 escaped_byte b =
-    if b == 92 then 92 ∷ 92 ∷ [] else (if b == 10 then 92 ∷ 110 ∷ [] else (if nat_lt b 32 || b == 127 then octal b else b ∷ []))
+    if b == 92 then 92 ∷ 92 ∷ []
+    else (if b == 10 then 92 ∷ 110 ∷ [] else (if nat_lt b 32 || b == 127 then octal b else b ∷ []))
 
+-- a value or data, byte by byte
 abbrev pub escaped : List ℕ → List ℕ
 escaped = flat_map escaped_byte
 
@@ -42,7 +44,8 @@ attribute_lines (kid (text value) rest) = attribute_lines rest
 abbrev mutual
   -- an element: its attributes, its start, its other kids and its end
   pub printed_node : Plain → List ℕ
-  printed_node (elem name kids) = attribute_lines kids ++ start_line name ++ content_lines kids ++ end_line name
+  printed_node (elem name kids) =
+      attribute_lines kids ++ start_line name ++ content_lines kids ++ end_line name
   printed_node (attr name value) = attribute_line name value
   printed_node (text value) = data_line value
 

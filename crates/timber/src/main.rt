@@ -1,7 +1,7 @@
 //! `timber`: reads a script on standard input and prints its transcript on standard output.
 //!
-//! Main hands the words, the streams and an open gate to `tb_top::settle`, whose contract says what is
-//! printed, and ends with the number of its status. Nothing is proved of what a stream holds.
+//! Main hands the words, the streams and an open gate to `tb_top::settle`, and ends with the number of its
+//! status. The contract of `settle` speaks of streams that tell their bytes; standard input and output don't.
 #![tactic(auto)]
 
 use std::alloc::AllocError;
