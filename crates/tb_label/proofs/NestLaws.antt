@@ -1,0 +1,118 @@
+-- The lists of one document nest, and so can be joined.
+use Rattle.std.proofs.Common.{◌+◌, ◌*◌, ◌<◌, Bool, true, false, if◌then◌else◌, List, [], ◌∷◌, All, length, map, refl, ap, arith}
+use Rattle.std.specs.List.{AllByRecursion, filter}
+use Rattle.std.proofs.lemmas.List.Elements.{All-from_recursion}
+use Rattle.std.proofs.lemmas.List.Kept.{AllPairs-cons}
+use Rattle.tb_span.specs.Span.{Nests, same, before, after, above, below}
+use Rattle.tb_span.specs.Lists.{IsSortedByStart, Nest, AreJoinable}
+use Rattle.tb_span.specs.declared.item.Item.{Item}
+use Rattle.tb_tree.specs.Plain.{Plain, one}
+use Rattle.tb_tree.specs.Numbers.{count}
+use Rattle.tb_tree.specs.Meets.{meets}
+use Rattle.tb_tree.specs.declared.node_test.Test.{Test}
+use Rattle.tb_label.specs.Rows.{Row, rows_of, item_of, listed, document_label, Follows, inside, beside}
+use Rattle.tb_label.specs.Stores.{document_item_of}
+use Rattle.tb_label.proofs.RowLaws.{IsUnder, AllFollow, all_under, all_follow, all-weaker}
+
+all-both : {X : Type 0} (P Q : X → Type 0) (xs : List X) → AllByRecursion P xs → AllByRecursion Q xs → AllByRecursion (λ x. P x × Q x) xs
+all-both P Q [] p q = tt
+all-both P Q (x ∷ xs) p q = ((p.0, q.0), all-both P Q xs p.1 q.1)
+
+-- what holds of all elements holds of those that are kept
+kept-one : {X Y : Type 0} (Q : Y → Type 0) (f : X → Y) (x : X) (ys : List X) (keep : Bool) → Q (f x) → AllByRecursion Q (map f ys) → AllByRecursion Q (map f (if keep then x ∷ ys else ys))
+kept-one Q f x ys true q qs = (q, qs)
+kept-one Q f x ys false q qs = qs
+
+all-kept : {X Y : Type 0} (P : X → Type 0) (Q : Y → Type 0) (f : X → Y) (p : X → Bool) (xs : List X) → ((x : X) → P x → Q (f x)) → AllByRecursion P xs → AllByRecursion Q (map f (filter p xs))
+all-kept P Q f p [] step all = tt
+all-kept P Q f p (x ∷ xs) step all = kept-one Q f x (filter p xs) (p x) (step x all.0) (all-kept P Q f p xs step all.1)
+
+abbrev Rises : Row → Row → Type 0
+Rises x y = x.label.start < y.label.start
+
+abbrev AllRise : List Row → Type 0
+AllRise [] = Unit {0}
+AllRise (x ∷ xs) = AllByRecursion (Rises x) xs × AllRise xs
+
+rises : (x y : Row) → x.label.start < x.label.end → Follows x y → Rises x y
+rises x y lasts (inside at over) = over.starts_before
+rises x y lasts (beside at past) = omega (arith, lasts, past)
+
+all_rise : (rs : List Row) → AllFollow rs → AllByRecursion (λ r. r.label.start < r.label.end) rs → AllRise rs
+all_rise [] follow last = tt
+all_rise (x ∷ xs) follow last = (all-weaker (Follows x) (Rises x) xs (λ y. rises x y last.0) follow.0, all_rise xs follow.1 last.1)
+
+sorted-one : (x : Row) (ys : List Row) (keep : Bool) → AllByRecursion (λ y. x.label.start < y.label.start) (map item_of ys) → IsSortedByStart (map item_of ys)
+    → IsSortedByStart (map item_of (if keep then x ∷ ys else ys))
+sorted-one x ys true first others = AllPairs-cons (λ u v. u.label.start < v.label.start) (item_of x) (map item_of ys) (All-from_recursion (λ y. x.label.start < y.label.start) (map item_of ys) first) others
+sorted-one x ys false first others = others
+
+sorted : (p : Row → Bool) (rs : List Row) → AllRise rs → IsSortedByStart (map item_of (filter p rs))
+sorted p [] all = λ i j d less within. absurd (omega (arith, within))
+sorted p (x ∷ xs) all =
+    sorted-one x (filter p xs) (p x) (all-kept (Rises x) (λ y. x.label.start < y.label.start) item_of p xs (λ y r. r) all.0) (sorted p xs all.1)
+
+nests-on : (x y : Row) → Follows x y → Nests x.label y.label
+nests-on x y (inside at is) = above is
+nests-on x y (beside at is) = before is
+
+nests-back : (x y : Row) → Follows x y → Nests y.label x.label
+nests-back x y (inside at is) = below is
+nests-back x y (beside at is) = after is
+
+all_nest : (rs : List Row) → AllFollow rs → AllByRecursion (λ x. AllByRecursion (λ y. Nests x.label y.label) rs) rs
+all_nest [] follow = tt
+all_nest (x ∷ xs) follow = (
+  (same refl, all-weaker (Follows x) (λ y. Nests x.label y.label) xs (nests-on x) follow.0),
+  all-both (λ z. Nests z.label x.label) (λ z. AllByRecursion (λ y. Nests z.label y.label) xs) xs
+      (all-weaker (Follows x) (λ z. Nests z.label x.label) xs (nests-back x) follow.0) (all_nest xs follow.1),
+)
+
+follow_of : (root : Plain) → AllFollow (rows_of root)
+follow_of root = all_follow 2 1 0 [] 0 (one root)
+
+under_of : (root : Plain) → AllByRecursion (IsUnder [] 0 2 (2 + 2 * count root)) (rows_of root)
+under_of root = all_under 2 1 0 [] 0 (one root)
+
+sorted_of : (test : Test) (root : Plain) → IsSortedByStart (listed test root)
+sorted_of test root =
+    sorted (λ r. meets test r.node) (rows_of root)
+    (all_rise (rows_of root) (follow_of root) (all-weaker (IsUnder [] 0 2 (2 + 2 * count root)) (λ r. r.label.start < r.label.end) (rows_of root) (λ r u. u.lasts) (under_of root)))
+
+nest_of : (s t : Test) (root : Plain) → Nest (listed s root) (listed t root)
+nest_of s t root =
+    All-from_recursion (λ x. All (λ y. Nests x.label y.label) (listed t root)) (listed s root)
+    (all-kept (λ x. AllByRecursion (λ y. Nests x.label y.label) (rows_of root)) (λ x. All (λ y. Nests x.label y.label) (listed t root)) item_of (λ r. meets s r.node) (rows_of root)
+    (λ x h. All-from_recursion (λ y. Nests x.label y.label) (listed t root)
+    (all-kept (λ y. Nests x.label y.label) (λ y. Nests x.label y.label) item_of (λ r. meets t r.node) (rows_of root) (λ y n. n) h))
+    (all_nest (rows_of root) (follow_of root)))
+
+pub joinable : (s t : Test) (root : Plain) → AreJoinable (listed s root) (listed t root)
+joinable s t root = record {
+  ancestors_sorted = sorted_of s root;
+  descendants_sorted = sorted_of t root;
+  ancestors_nest = nest_of s s root;
+  descendants_nest = nest_of t t root;
+  both_nest = nest_of s t root;
+}
+
+document_above : (root : Plain) (r : Row) → IsUnder [] 0 2 (2 + 2 * count root) r → Nests (document_label root) r.label
+document_above root r u =
+    above (record { starts_before = omega (arith, u.starts); ends_after = omega (arith, u.ends); level = omega (arith, u.level, ap length u.is) })
+
+alone-all : (P : Item → Type 0) (x : Item) → P x → All P (x ∷ [])
+alone-all P x p = All-from_recursion P (x ∷ []) (p, tt)
+
+pub document_joinable : (test : Test) (root : Plain) → AreJoinable (document_item_of root ∷ []) (listed test root)
+document_joinable test root =
+    let document = document_item_of root in
+    record {
+      ancestors_sorted = AllPairs-cons (λ u v. u.label.start < v.label.start) document [] (All-from_recursion (λ v. document.label.start < v.label.start) [] tt) (λ i j d less within. absurd (omega (arith, within)));
+      descendants_sorted = sorted_of test root;
+      ancestors_nest = alone-all (λ x. All (λ y. Nests x.label y.label) (document ∷ [])) document (alone-all (λ y. Nests document.label y.label) document (same refl));
+      descendants_nest = nest_of test test root;
+      both_nest =
+          alone-all (λ x. All (λ y. Nests x.label y.label) (listed test root)) document
+          (All-from_recursion (λ y. Nests document.label y.label) (listed test root)
+          (all-kept (IsUnder [] 0 2 (2 + 2 * count root)) (λ y. Nests document.label y.label) item_of (λ r. meets test r.node) (rows_of root) (document_above root) (under_of root)));
+    }

@@ -1,0 +1,5 @@
+pub mod Rows
+pub mod Entries
+pub mod Lists
+pub mod Chosen
+pub mod Stores

@@ -1,0 +1,80 @@
+-- The nodes of a document with their labels: the rows that a store keeps.
+use Rattle.std.specs.Prelude.{◌≡◌, ℕ, ◌+◌, ◌*◌, ◌<◌, List, [], ◌∷◌, ◌++◌, map, filter, length}
+use Rattle.tb_span.specs.Span.{Span, IsAbove, IsBefore}
+use Rattle.tb_span.specs.declared.item.Item.{Item}
+use Rattle.tb_tree.specs.Plain.{Plain, elem, attr, text, Plains, no_kids, kid}
+use Rattle.tb_tree.specs.Numbers.{counts, count}
+use Rattle.tb_tree.specs.Places.{IsAncestor}
+use Rattle.tb_tree.specs.Meets.{meets}
+use Rattle.tb_tree.specs.declared.node_test.Test.{Test}
+
+-- One counter goes through the document in document order. The document node takes 1; each other node
+-- takes a number where it is entered and a number where it is left. Its level is the length of its place.
+pub record Row : Type 0 where
+  -- where it stands
+  pub place : List ℕ
+  -- its number in document order, its parent's number, and which kid of its parent it is, from 0
+  pub number : ℕ
+  pub parent : ℕ
+  pub turn : ℕ
+  pub label : Span
+  pub node : Plain
+
+-- a node without nodes below it is left at once
+abbrev pub leaf_row : ℕ → ℕ → ℕ → List ℕ → ℕ → Plain → Row
+leaf_row clock number parent at k node = record {
+  place = at ++ k ∷ [];
+  number = number;
+  parent = parent;
+  turn = k;
+  label = record { start = clock; end = clock + 1; level = length at + 1 };
+  node = node;
+}
+
+abbrev pub elem_row : ℕ → ℕ → ℕ → List ℕ → ℕ → List ℕ → Plains → Row
+elem_row clock number parent at k name kids = record {
+  place = at ++ k ∷ [];
+  number = number;
+  parent = parent;
+  turn = k;
+  label = record { start = clock; end = clock + 2 * counts kids + 1; level = length at + 1 };
+  node = elem name kids;
+}
+
+-- the nodes below a place, from its k-th kid on, where the counter stands so
+abbrev pub rows : ℕ → ℕ → ℕ → List ℕ → ℕ → Plains → List Row
+rows clock number parent at k no_kids = []
+rows clock number parent at k (kid (elem name kids) rest) =
+    elem_row clock number parent at k name kids
+    ∷ (rows (clock + 1) (number + 1) number (at ++ k ∷ []) 0 kids
+    ++ rows (clock + 2 * counts kids + 2) (number + 1 + counts kids) parent at (k + 1) rest)
+rows clock number parent at k (kid (attr name value) rest) =
+    leaf_row clock number parent at k (attr name value) ∷ rows (clock + 2) (number + 1) parent at (k + 1) rest
+rows clock number parent at k (kid (text value) rest) =
+    leaf_row clock number parent at k (text value) ∷ rows (clock + 2) (number + 1) parent at (k + 1) rest
+
+-- a document's rows, in document order
+abbrev pub rows_of : Plain → List Row
+rows_of root = rows 2 1 0 [] 0 (kid root no_kids)
+
+-- the label of the document node
+abbrev pub document_label : Plain → Span
+document_label root = record { start = 1; end = 2 * count root + 2; level = 0 }
+
+abbrev pub item_of : Row → Item
+item_of r = record { label = r.label; node = r.number }
+
+-- the nodes that meet the test, by start
+abbrev pub listed : Test → Plain → List Item
+listed test root = map item_of (filter (λ r. meets test r.node) (rows_of root))
+
+-- One place stands left of another where they part at a kid with a smaller number.
+abbrev pub IsLeftOf : List ℕ → List ℕ → Type 0
+IsLeftOf u v =
+    (front : List ℕ) × (j : ℕ) × (k : ℕ) × (a : List ℕ) × (b : List ℕ) × (u ≡ front ++ j ∷ a) × (v ≡ front ++ k ∷ b) × (j < k)
+
+-- Labels and places agree: a row that follows another is below it and inside its label, or right of it and
+-- behind its label.
+pub data Follows (x y : Row) : Type 0 where
+  inside : IsAncestor x.place y.place → IsAbove x.label y.label → Follows x y
+  beside : IsLeftOf x.place y.place → IsBefore x.label y.label → Follows x y
