@@ -12,7 +12,8 @@ use Rattle.tb_tree.specs.Meets.{meets}
 use Rattle.tb_tree.specs.declared.node_test.Test.{Test}
 use Rattle.tb_label.specs.Rows.{Row, rows_of, item_of, listed, document_label, Follows, inside, beside}
 use Rattle.tb_label.specs.Stores.{document_item_of}
-use Rattle.tb_label.proofs.RowLaws.{IsUnder, AllFollow, all_under, all_follow, all-weaker}
+use Rattle.tb_tree.proofs.Alls.{all-weaker}
+use Rattle.tb_label.proofs.RowLaws.{IsUnder, AllFollow, all_under, all_follow}
 
 all-both : {X : Type 0} (P Q : X → Type 0) (xs : List X) → AllByRecursion P xs → AllByRecursion Q xs → AllByRecursion (λ x. P x × Q x) xs
 all-both P Q [] p q = tt

@@ -3,6 +3,7 @@ use Rattle.std.proofs.Common.{◌≡◌, ℕ, ◌+◌, ◌*◌, ◌<◌, ◌≤�
 use Rattle.std.specs.List.{AllByRecursion}
 use Rattle.tb_tree.specs.Plain.{Plain, elem, attr, text, Plains, no_kids, kid}
 use Rattle.tb_tree.specs.Numbers.{counts}
+use Rattle.tb_tree.proofs.Alls.{all-append, all-weaker}
 use Rattle.tb_label.specs.Rows.{Row, leaf_row, elem_row, rows, Follows, inside, beside}
 
 -- a row below this place, from its k-th kid on, whose label lies in the stretch of the counter
@@ -20,14 +21,6 @@ pub record IsUnder (at : List ℕ) (k from to : ℕ) (r : Row) : Type 0 where
 abbrev pub AllFollow : List Row → Type 0
 AllFollow [] = Unit {0}
 AllFollow (x ∷ xs) = AllByRecursion (Follows x) xs × AllFollow xs
-
-pub all-append : {X : Type 0} (P : X → Type 0) (xs ys : List X) → AllByRecursion P xs → AllByRecursion P ys → AllByRecursion P (xs ++ ys)
-all-append P [] ys p q = q
-all-append P (x ∷ xs) ys p q = (p.0, all-append P xs ys p.1 q)
-
-pub all-weaker : {X : Type 0} (P Q : X → Type 0) (xs : List X) → ((x : X) → P x → Q x) → AllByRecursion P xs → AllByRecursion Q xs
-all-weaker P Q [] f p = tt
-all-weaker P Q (x ∷ xs) f p = (f x p.0, all-weaker P Q xs f p.1)
 
 follow-append : (xs ys : List Row) → AllFollow xs → AllFollow ys → AllByRecursion (λ x. AllByRecursion (Follows x) ys) xs → AllFollow (xs ++ ys)
 follow-append [] ys p q r = q

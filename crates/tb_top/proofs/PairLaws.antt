@@ -1,7 +1,7 @@
 -- The matches found by walking the tree are the witnesses of the query.
 use Rattle.std.proofs.Common.{◌≡◌, ℕ, ◌+◌, ◌<◌, List, ◌++◌, length, get_or, drop, map, sym, ap, ap₂, ◌∙◌, arith, append_assoc}
 use Rattle.std.specs.List.{flat_map}
-use Rattle.std.proofs.lemmas.List.{drop_more, map-append}
+use Rattle.std.proofs.lemmas.List.{map-append}
 use Rattle.std.proofs.lemmas.List.Concat.{flat_map-append}
 use Rattle.std.proofs.lemmas.List.Elements.{filter-append}
 use Rattle.tb_tree.specs.Plain.{Plain, Plains, no_kids, kid, kids_of}
@@ -9,6 +9,7 @@ use Rattle.tb_tree.specs.View.{plain_of, plains_of}
 use Rattle.tb_tree.specs.Numbers.{counts, count, all_numbered}
 use Rattle.tb_tree.specs.declared.node.Node.{Node}
 use Rattle.tb_tree.proofs.Numbering.{counts-kid, all_numbered-kid}
+use Rattle.tb_tree.proofs.Views.{plains_of-drop}
 use Rattle.tb_top.specs.Pairs.{named, seconds_under, firsts_in}
 use Rattle.tb_top.specs.declared.matching.Match.{Match}
 
@@ -40,8 +41,7 @@ pub walked-more : (F : ℕ → Plains → List Match)
     → Walked F nodes i number total found whole → Walked F nodes (i + 1) after total more whole
 walked-more F step nodes i number total found whole node after more within at next grown w =
     let rest = plains_of (drop (i + 1) nodes) in
-    let left : plains_of (drop i nodes) ≡ kid (plain_of node) rest =
-    ap plains_of (drop_more nodes i node within) ∙ ap (λ k. kid (plain_of k) rest) (sym at) in
+    let left = plains_of-drop nodes i node within at in
     record {
       numbered = omega (arith, w.numbered, next, ap counts left ∙ counts-kid (plain_of node) rest);
       collected =

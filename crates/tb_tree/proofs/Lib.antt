@@ -1,5 +1,6 @@
 pub mod Steps
 pub mod Fronts
 pub mod Views
+pub mod Alls
 pub mod Numbering
 pub mod PlaceLaws

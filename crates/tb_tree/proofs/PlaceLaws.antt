@@ -10,6 +10,7 @@ use Rattle.std.proofs.lemmas.Bool.{lt-ltb, le-ltb}
 use Rattle.tb_tree.specs.Plain.{elem, attr, text, Plains, no_kids, kid}
 use Rattle.tb_tree.specs.Numbers.{counts, all_numbered}
 use Rattle.tb_tree.specs.Places.{IsAncestor, Precedes, Placed, placed_below}
+use Rattle.tb_tree.proofs.Alls.{all-append, all-weaker}
 
 -- numbers from a on, one after the other
 range_join : (a m n : ℕ) → range_with_len a m ++ range_with_len (a + m) n ≡ range_with_len a (m + n)
@@ -52,14 +53,6 @@ pub record IsUnder (at : List ℕ) (k : ℕ) (place : List ℕ) : Type 0 where
   pub rest : List ℕ
   pub from : k ≤ turn
   pub is : place ≡ at ++ turn ∷ rest
-
-all-append : {X : Type 0} (P : X → Type 0) (xs ys : List X) → AllByRecursion P xs → AllByRecursion P ys → AllByRecursion P (xs ++ ys)
-all-append P [] ys p q = q
-all-append P (x ∷ xs) ys p q = (p.0, all-append P xs ys p.1 q)
-
-all-weaker : {X : Type 0} (P Q : X → Type 0) (xs : List X) → ((x : X) → P x → Q x) → AllByRecursion P xs → AllByRecursion Q xs
-all-weaker P Q [] f p = tt
-all-weaker P Q (x ∷ xs) f p = (f x p.0, all-weaker P Q xs f p.1)
 
 abbrev pub places : List Placed → List (List ℕ)
 places ps = map (λ p. p.place) ps

@@ -1,6 +1,7 @@
 -- A node of the program and its plain tree, level by level.
-use Rattle.std.proofs.Common.{◌≡◌, ℕ, List, rules}
-use Rattle.tb_tree.specs.Plain.{elem, attr, text}
+use Rattle.std.proofs.Common.{◌≡◌, ℕ, ◌+◌, ◌<◌, List, length, drop, get_or, ap, sym, ◌∙◌, rules}
+use Rattle.std.proofs.lemmas.List.{drop_more}
+use Rattle.tb_tree.specs.Plain.{elem, attr, text, kid}
 use Rattle.tb_tree.specs.View.{plain_of, plains_of}
 use Rattle.tb_tree.specs.declared.node.Node.{Node, Elem, Attr, Text, the_lemmas}
 
@@ -12,3 +13,7 @@ plain_of-Attr name value = search (rules, the_lemmas)
 
 pub plain_of-Text : (value : List ℕ) → plain_of (Text value) ≡ text value
 plain_of-Text value = search (rules, the_lemmas)
+
+-- the nodes from the i-th on are that node and those behind it
+pub plains_of-drop : (nodes : List Node) (i : ℕ) (node : Node) → i < length nodes → node ≡ get_or nodes i node → plains_of (drop i nodes) ≡ kid (plain_of node) (plains_of (drop (i + 1) nodes))
+plains_of-drop nodes i node within at = ap plains_of (drop_more nodes i node within) ∙ ap (λ n. kid (plain_of n) (plains_of (drop (i + 1) nodes))) (sym at)
