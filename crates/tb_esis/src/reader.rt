@@ -72,6 +72,8 @@ fn elements(
         kids.push(kid)?;
         rest = behind;
     }
+    // Most elements have few kids, and room for more would take more memory than the kids.
+    kids.shrink_to_fit();
     Ok(Some((kids, rest)))
 }
 
