@@ -8,9 +8,10 @@ use Rattle.tb_tree.specs.Meets.{meets}
 use Rattle.tb_tree.specs.declared.node_test.Test.{Test}
 use Rattle.tb_label.specs.declared.entry.Entry.{Entry}
 use Rattle.tb_label.specs.Rows.{Row, rows, item_of}
-use Rattle.tb_label.specs.Entries.{entry_of}
+use Rattle.tb_label.specs.Entries.{entry_of, item_at}
 use Rattle.tb_label.specs.Lists.{one_if}
 use Rattle.tb_label.specs.Chosen.{nodes_of, chosen}
+use Rattle.tb_label.proofs.LinkLaws.{CountOn}
 
 pub length-nodes : (ks : Plains) → length (nodes_of ks) ≡ counts ks
 length-nodes no_kids = refl
@@ -23,9 +24,9 @@ nodes-kid (elem name kids) rest = ap (λ ns. elem name kids ∷ (ns ++ nodes_of 
 nodes-kid (attr name value) rest = refl
 nodes-kid (text value) rest = refl
 
-chosen-none : (test : Test) (nodes : List Plain) → chosen test nodes [] ≡ []
-chosen-none test [] = refl
-chosen-none test (node ∷ nodes) = refl
+chosen-none : (test : Test) (n : ℕ) (nodes : List Plain) → chosen test n nodes [] ≡ []
+chosen-none test n [] = refl
+chosen-none test n (node ∷ nodes) = refl
 
 pub drop-none : (n : ℕ) → drop {A = Entry} n [] ≡ []
 drop-none zero = refl
@@ -39,19 +40,24 @@ drop-sum zero b es = same_drop (zero + b) b es (omega arith)
 drop-sum (suc a) b [] = drop-none (suc a + b) ∙ sym (drop-none b)
 drop-sum (suc a) b (e ∷ es) = same_drop (suc a + b) (suc (a + b)) (e ∷ es) (omega arith) ∙ drop-sum a b es
 
-pub chosen-append : (test : Test) (nodes more : List Plain) (es : List Entry)
-    → chosen test (nodes ++ more) es ≡ chosen test nodes es ++ chosen test more (drop (length nodes) es)
-chosen-append test [] more es = refl
-chosen-append test (node ∷ nodes) more [] = sym (chosen-none test more)
-chosen-append test (node ∷ nodes) more (e ∷ es) =
-    ap (λ is. one_if (meets test node) e.item ++ is) (chosen-append test nodes more es)
-    ∙ sym (append_assoc (one_if (meets test node) e.item) (chosen test nodes es) (chosen test more (drop (length nodes) es)))
+pub chosen-append : (test : Test) (n : ℕ) (nodes more : List Plain) (es : List Entry)
+    → chosen test n (nodes ++ more) es ≡ chosen test n nodes es ++ chosen test (n + length nodes) more (drop (length nodes) es)
+chosen-append test n [] more es = ap (λ m. chosen test m more es) (sym (none_more n))
+  where
+    none_more : (n : ℕ) → n + 0 ≡ n
+    none_more n = omega arith
+chosen-append test n (node ∷ nodes) more [] = sym (chosen-none test (n + length (node ∷ nodes)) more)
+chosen-append test n (node ∷ nodes) more (e ∷ es) =
+    let next : n + 1 + length nodes ≡ n + length (node ∷ nodes) = omega arith in
+    ap (λ is. one_if (meets test node) (item_at n e) ++ is)
+    (chosen-append test (n + 1) nodes more es ∙ ap (λ m. chosen test (n + 1) nodes es ++ chosen test m more (drop (length nodes) es)) next)
+    ∙ sym (append_assoc (one_if (meets test node) (item_at n e)) (chosen test (n + 1) nodes es) (chosen test (n + length (node ∷ nodes)) more (drop (length nodes) es)))
 
-pub chosen-kid : (test : Test) (node : Plain) (rest : Plains) (es : List Entry)
-    → chosen test (nodes_of (kid node rest)) es ≡ chosen test (nodes_of (one node)) es ++ chosen test (nodes_of rest) (drop (count node) es)
-chosen-kid test node rest es =
-    ap (λ ns. chosen test ns es) (nodes-kid node rest) ∙ chosen-append test (nodes_of (one node)) (nodes_of rest) es
-    ∙ ap (λ n. chosen test (nodes_of (one node)) es ++ chosen test (nodes_of rest) (drop n es)) (length-nodes (one node))
+pub chosen-kid : (test : Test) (n : ℕ) (node : Plain) (rest : Plains) (es : List Entry)
+    → chosen test n (nodes_of (kid node rest)) es ≡ chosen test n (nodes_of (one node)) es ++ chosen test (n + count node) (nodes_of rest) (drop (count node) es)
+chosen-kid test n node rest es =
+    ap (λ ns. chosen test n ns es) (nodes-kid node rest) ∙ chosen-append test n (nodes_of (one node)) (nodes_of rest) es
+    ∙ ap (λ m. chosen test n (nodes_of (one node)) es ++ chosen test (n + m) (nodes_of rest) (drop m es)) (length-nodes (one node))
 
 -- the nodes are those of the rows
 pub nodes-rows : (clock number parent : ℕ) (at : List ℕ) (k : ℕ) (ks : Plains) → map (λ r. r.node) (rows clock number parent at k ks) ≡ nodes_of ks
@@ -63,15 +69,15 @@ nodes-rows clock number parent at k (kid (elem name kids) rest) =
 nodes-rows clock number parent at k (kid (attr name value) rest) = ap (λ ns. attr name value ∷ ns) (nodes-rows _ (number + 1) parent at (k + 1) rest)
 nodes-rows clock number parent at k (kid (text value) rest) = ap (λ ns. text value ∷ ns) (nodes-rows _ (number + 1) parent at (k + 1) rest)
 
-chosen-row : (test : Test) (r : Row) (rs : List Row)
-    → chosen test (map (λ r. r.node) rs) (map entry_of rs) ≡ map item_of (filter (λ r. meets test r.node) rs)
+chosen-row : (test : Test) (n : ℕ) (r : Row) (rs : List Row) → r.number ≡ n
+    → chosen test (n + 1) (map (λ r. r.node) rs) (map entry_of rs) ≡ map item_of (filter (λ r. meets test r.node) rs)
     → (met : Bool)
-    → one_if met (item_of r) ++ chosen test (map (λ r. r.node) rs) (map entry_of rs)
+    → one_if met (item_at n (entry_of r)) ++ chosen test (n + 1) (map (λ r. r.node) rs) (map entry_of rs)
     ≡ map item_of (if met then r ∷ filter (λ r. meets test r.node) rs else filter (λ r. meets test r.node) rs)
-chosen-row test r rs others true = ap (λ is. item_of r ∷ is) others
-chosen-row test r rs others false = others
+chosen-row test n r rs is others true = ap₂ (λ m is. item_at m (entry_of r) ∷ is) (sym is) others
+chosen-row test n r rs is others false = others
 
--- what is chosen of rows is what is listed of them
-pub chosen-rows : (test : Test) (rs : List Row) → chosen test (map (λ r. r.node) rs) (map entry_of rs) ≡ map item_of (filter (λ r. meets test r.node) rs)
-chosen-rows test [] = refl
-chosen-rows test (r ∷ rs) = chosen-row test r rs (chosen-rows test rs) (meets test r.node)
+-- what is chosen of rows whose numbers count on is what is listed of them
+pub chosen-rows : (test : Test) (n : ℕ) (rs : List Row) → CountOn n rs → chosen test n (map (λ r. r.node) rs) (map entry_of rs) ≡ map item_of (filter (λ r. meets test r.node) rs)
+chosen-rows test n [] counted = refl
+chosen-rows test n (r ∷ rs) counted = chosen-row test n r rs counted.0 (chosen-rows test (n + 1) rs counted.1) (meets test r.node)

@@ -13,6 +13,7 @@ use Rattle.tb_label.specs.Entries.{entries_of}
 abbrev pub document_item_of : Plain → Item
 document_item_of root = record { label = document_label root; node = 0 }
 
-pub record IsStore (root : Plain) (kept : List Entry) (lists : Lists) : Type 0 where
+pub record IsStore (root : Plain) (kept : List Entry) (document : Item) (lists : Lists) : Type 0 where
   pub entered : kept ≡ entries_of root
+  pub document_is : document ≡ document_item_of root
   pub all_listed : (test : Test) → in_lists lists test ≡ listed test root

@@ -6,34 +6,39 @@ ghost use Rattle.tb_tree.specs.Plain.{one};
 ghost use Rattle.tb_tree.specs.View.{plain_of, plains_of};
 ghost use Rattle.tb_tree.specs.Numbers.{count, counts};
 ghost use Rattle.tb_tree.specs.Levels.{levels};
-ghost use Rattle.tb_label.specs.Entries.{entries, entry_at};
+ghost use Rattle.tb_label.specs.Entries.{entries, entry_at, item_at};
 
 use std::alloc::AllocError;
 use tb_span::{Item, Label, NodeId};
 use tb_tree::Node;
 
-/// A node's item, the number of its parent, and which kid of its parent it is, from 0.
+/// A node's label, the number of its parent, and which kid of its parent it is, from 0.
 #[derive(Clone, Copy, Debug)]
 pub struct Entry {
-    pub item: Item,
+    pub label: Label,
     pub parent: u32,
     pub kid: u32,
 }
 
+impl Entry {
+    /// The item of the node with that number, of which this is the entry.
+    pub fn item(&self, number: u32) -> Item
+        ensures { result ≡ item_at number self.now }
+    {
+        Item {
+            label: self.label,
+            node: NodeId::new(number),
+        }
+    }
+}
+
 /// An entry from its numbers.
-pub fn entry_at(start: u32, end: u32, level: u16, number: u32, parent: u32, kid: u32) -> Entry
+pub fn entry_at(start: u32, end: u32, level: u16, parent: u32, kid: u32) -> Entry
     requires { start < end }
-    ensures { result ≡ entry_at start end level number parent kid }
+    ensures { result ≡ entry_at start end level parent kid }
 {
     match Label::new(start, end, level) {
-        Some(label) => Entry {
-            item: Item {
-                label,
-                node: NodeId::new(number),
-            },
-            parent,
-            kid,
-        },
+        Some(label) => Entry { label, parent, kid },
         None => unreachable!(),
     }
 }
@@ -56,13 +61,12 @@ fn enter(
     ensures entered { OnOk result (out.new.items ≡ out.old.items ++ entries clock (vec_len out.old) parent level kid (one (plain_of node.now))) }
 {
     let number = out.len();
+    out.push(entry_at(clock, clock + 1, level, parent, kid))?;
     let Node::Elem { kids, .. } = node else {
-        out.push(entry_at(clock, clock + 1, level, number as u32, parent, kid))?;
         return Ok(clock + 2);
     };
-    out.push(entry_at(clock, clock + 1, level, number as u32, parent, kid))?;
     let end = enter_all(kids.as_slice(), clock + 1, number as u32, level + 1, out)?;
-    out[number] = entry_at(clock, end, level, number as u32, parent, kid);
+    out[number] = entry_at(clock, end, level, parent, kid);
     Ok(end + 1)
 }
 

@@ -26,9 +26,9 @@ fn list_node(
     requires entered { first + count (plain_of node.now) ≤ length entries.now }
     requires numbers { length entries.now < 2 ^ 32 }
     ensures next { IfOk result (λ next. next ≡ first + count (plain_of node.now)) }
-    ensures listed { OnOk result ((t : Test) → in_lists lists.new t ≡ in_lists lists.old t ++ chosen t (nodes_of (one (plain_of node.now))) (drop first entries.now)) }
+    ensures listed { OnOk result ((t : Test) → in_lists lists.new t ≡ in_lists lists.old t ++ chosen t first (nodes_of (one (plain_of node.now))) (drop first entries.now)) }
 {
-    lists.add(alloc, node, &entries[first as usize].item)?;
+    lists.add(alloc, node, &entries[first as usize].item(first))?;
     let Node::Elem { kids, .. } = node else {
         return Ok(first + 1);
     };
@@ -47,7 +47,7 @@ pub fn list_all(
     requires entered { first + counts (plains_of kids.now) ≤ length entries.now }
     requires numbers { length entries.now < 2 ^ 32 }
     ensures next { IfOk result (λ next. next ≡ first + counts (plains_of kids.now)) }
-    ensures listed { OnOk result ((t : Test) → in_lists lists.new t ≡ in_lists lists.old t ++ chosen t (nodes_of (plains_of kids.now)) (drop first entries.now)) }
+    ensures listed { OnOk result ((t : Test) → in_lists lists.new t ≡ in_lists lists.old t ++ chosen t first (nodes_of (plains_of kids.now)) (drop first entries.now)) }
 {
     let mut next = first;
     'kids: for node in kids {

@@ -27,6 +27,7 @@ use tb_tree::{Node, Test, Tree};
 pub struct Store {
     tree: Tree,
     entries: Vec<Entry>,
+    document: Item,
     lists: Lists,
 }
 
@@ -43,7 +44,7 @@ impl Model for Store {
 
     ghost view = { λ store. store.tree };
 
-    ghost invariant = { λ store. IsStore (plain_of store.tree) store.entries.items store.lists };
+    ghost invariant = { λ store. IsStore (plain_of store.tree) store.entries.items store.document store.lists };
 }
 
 impl Store {
@@ -56,9 +57,11 @@ impl Store {
     {
         let entries = entries_of(alloc, tree.root())?;
         let lists = lists_of(alloc, tree.root(), entries.as_slice())?;
+        let document = entries[0].item(0);
         Ok(Store {
             tree,
             entries,
+            document,
             lists,
         })
     }
@@ -75,7 +78,7 @@ impl Store {
         ensures item { result.now ≡ document_item_of (plain_of self.now) ∷ [] }
         ensures joinable { (other : Test) → AreJoinable result.now (listed other (plain_of self.now)) }
     {
-        slice::from_ref(&self.entries[0].item)
+        slice::from_ref(&self.document)
     }
 
     /// The nodes that meet the test, by start. A name that doesn't occur gives none.
@@ -135,9 +138,9 @@ fn entries_of(alloc: Global, root: &Node) -> Result<Vec<Entry>, AllocError>
     ensures { IfOk result (λ entries. entries.items ≡ entries_of (plain_of root.now)) }
 {
     let mut entries = Vec::new(alloc);
-    entries.push(entry_at(1, 2, 0, 0, 0, 0))?;
+    entries.push(entry_at(1, 2, 0, 0, 0))?;
     let end = enter_all(slice::from_ref(root), 2, 0, 1, &mut entries)?;
-    entries[0] = entry_at(1, end, 0, 0, 0, 0);
+    entries[0] = entry_at(1, end, 0, 0, 0);
     Ok(entries)
 }
 

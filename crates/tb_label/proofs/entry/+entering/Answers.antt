@@ -1,20 +1,17 @@
 -- The entries of a list of kids are those of each kid, one after the other.
 use Rattle.std.proofs.Common.{◌≡◌, ℕ, ◌+◌, ◌*◌, ◌<◌, ◌≤◌, ◌^◌, List, [], ◌∷◌, ◌++◌, length, get_or, set, drop, vec_len, refl, sym, ap, ap₂, ◌∙◌, arith, rules, append_assoc, append-nil, length-append, Vec, Global}
-use Rattle.std.proofs.lemmas.List.{drop_more, set_at}
+use Rattle.std.proofs.lemmas.List.{set_at}
 use Rattle.tb_tree.specs.Plain.{Plain, elem, Plains, no_kids, kid, one}
 use Rattle.tb_tree.specs.View.{plain_of, plains_of}
 use Rattle.tb_tree.specs.Numbers.{counts, count}
 use Rattle.tb_tree.specs.Levels.{levels}
 use Rattle.tb_tree.specs.declared.node.Node.{Node, the_lemmas}
 use Rattle.tb_tree.proofs.Numbering.{counts-kid}
-use Rattle.tb_tree.proofs.Views.{plain_of-Elem}
+use Rattle.tb_tree.proofs.Views.{plain_of-Elem, plains_of-drop}
 use Rattle.tb_label.specs.declared.entry.Entry.{Entry}
 use Rattle.tb_label.specs.Entries.{entry_at, entries}
 use Rattle.tb_label.proofs.EntryLaws.{entries-kid, length-entries, levels-kid, counts-length}
 use Rattle.tb_label.proofs.entry.+entering.Goals as goal
-
-next_kid : (kids : List Node) (i : ℕ) (node : Node) → i < length kids → node ≡ get_or kids i node → plains_of (drop i kids) ≡ kid (plain_of node) (plains_of (drop (i + 1) kids))
-next_kid kids i node within at = ap plains_of (drop_more kids i node within) ∙ ap (λ k. kid (plain_of k) (plains_of (drop (i + 1) kids))) (sym at)
 
 clock_fits : (now left clock all here rest : ℕ) → now + 2 * left ≡ clock + 2 * all → left ≡ here + rest → clock + 2 * all < 2 ^ 32 → now + 2 * here < 2 ^ 32
 clock_fits now left clock all here rest counted split bound = omega arith
@@ -29,7 +26,7 @@ pub enter_all-enter-requires : goal.enter_all-enter-requires
 enter_all-enter-requires t c =
     let node = plain_of c.node-item.result in
     let rest = plains_of (drop (c.kids.node-index + 1) c.args.kids.now) in
-    let left = next_kid c.args.kids.now c.kids.node-index c.node-item.result (omega arith) c.node-item.is in
+    let left = plains_of-drop c.args.kids.now c.kids.node-index c.node-item.result (omega arith) c.node-item.is in
     let split : counts (plains_of (drop c.kids.node-index c.args.kids.now)) ≡ count node + counts rest = ap counts left ∙ counts-kid node rest in
     let first : levels (one node) ≤ levels (plains_of (drop c.kids.node-index c.args.kids.now)) = rw left (levels-kid node rest).0 in (
       search (rules, the_lemmas),
@@ -47,7 +44,7 @@ enter_all-overflow_add-kid t c = omega (arith, counts-length c.args.kids.now, c.
 
 -- the entry of an element is written over what stood there before its kids were entered
 elem_entries : (clock end len number next parent level k : ℕ) (name : List ℕ) (kids : Plains) (e : Entry)
-    → e ≡ entry_at clock end level number parent k → end ≡ clock + 1 + 2 * counts kids → number ≡ len → next ≡ len + 1
+    → e ≡ entry_at clock end level parent k → end ≡ clock + 1 + 2 * counts kids → number ≡ len → next ≡ len + 1
     → e ∷ entries (clock + 1) next number (level + 1) 0 kids ≡ entries clock len parent level k (one (elem name kids))
 elem_entries clock end len number next parent level k name kids e is ends same after =
     let last : end ≡ clock + 2 * counts kids + 1 = omega arith in
@@ -62,12 +59,12 @@ overwritten old mid inner before after n is len = rw (is, append_assoc old (befo
 pub enter-returns-clause-entered : goal.enter-returns-clause-entered
 enter-returns-clause-entered t c =
     let old = c.args.out.now in
-    let inner = entries (c.args.clock + 1) (vec_len c.push-2.new.self) c.len-number.result (c.args.level + 1) 0 (plains_of c.as_slice.result.now) in
-    let mid = c.in_ok-end.ensures.entered ∙ ap (λ x. x ++ inner) c.in_ok-push-2.ensures.items in
-    let put = overwritten old.items _ inner _ c.entry_at-3.result c.len-number.result mid (sym (c.len-number.ensures ∙ c.args.out.now.ok.0)) in
+    let inner = entries (c.args.clock + 1) (vec_len c.push.new.self) c.len-number.result (c.args.level + 1) 0 (plains_of c.as_slice.result.now) in
+    let mid = c.in_ok-end.ensures.entered ∙ ap (λ x. x ++ inner) c.in_ok-push.ensures.items in
+    let put = overwritten old.items _ inner _ c.entry_at-2.result c.len-number.result mid (sym (c.len-number.ensures ∙ c.args.out.now.ok.0)) in
     let node : plain_of c.args.node.now ≡ elem c.in-Elem.name (plains_of c.as_slice.result.now) =
     ap plain_of c.in-Elem.is ∙ plain_of-Elem c.in-Elem.name c.in-Elem.kids ∙ ap (λ ks. elem c.in-Elem.name (plains_of ks)) (sym c.as_slice.ensures) in
-    put ∙ ap (λ x. old.items ++ x) (elem_entries c.args.clock _ (vec_len old) c.len-number.result (vec_len c.push-2.new.self) c.args.parent c.args.level c.args.kid c.in-Elem.name (plains_of c.as_slice.result.now) c.entry_at-3.result c.entry_at-3.ensures c.in_ok-end.ensures.clock c.len-number.ensures (grown old c.push-2.new.self c.entry_at-2.result c.in_ok-push-2.ensures.items))
+    put ∙ ap (λ x. old.items ++ x) (elem_entries c.args.clock _ (vec_len old) c.len-number.result (vec_len c.push.new.self) c.args.parent c.args.level c.args.kid c.in-Elem.name (plains_of c.as_slice.result.now) c.entry_at-2.result c.entry_at-2.ensures c.in_ok-end.ensures.clock c.len-number.ensures (grown old c.push.new.self c.entry_at.result c.in_ok-push.ensures.items))
     ∙ ap (λ n. old.items ++ entries c.args.clock (vec_len old) c.args.parent c.args.level c.args.kid (one n)) (sym node)
 
 longer_by : (v w : Vec Entry Global) (more : List Entry) (n : ℕ) → w.items ≡ v.items ++ more → length more ≡ n → vec_len w ≡ vec_len v + n
@@ -95,7 +92,7 @@ pub enter_all-kids-preserved : goal.enter_all-kids-preserved
 enter_all-kids-preserved t c =
     let node = plain_of c.node-item.result in
     let rest = plains_of (drop (c.kids.node-index + 1) c.args.kids.now) in
-    let left = next_kid c.args.kids.now c.kids.node-index c.node-item.result (omega arith) c.node-item.is in
+    let left = plains_of-drop c.args.kids.now c.kids.node-index c.node-item.result (omega arith) c.node-item.is in
     let split : counts (plains_of (drop c.kids.node-index c.args.kids.now)) ≡ count node + counts rest = ap counts left ∙ counts-kid node rest in
     let one_more : List Entry = entries c.kids.now (vec_len c.kids.out) c.args.parent c.args.level c.kids.kid (one node) in
     let longer : vec_len c.enter.new.out ≡ vec_len c.kids.out + count node =

@@ -10,6 +10,6 @@ use Rattle.tb_label.proofs.listing.+listing.Given as goal
 abbrev pub invariant-list_all-kids : goal.invariant-list_all-kids
 invariant-list_all-kids l = record {
   counted : l.next + counts (plains_of (drop l.node-index l.kids)) ≡ l.first + counts (plains_of l.kids);
-  listed : (t : Test) → in_lists l.lists t ++ chosen t (nodes_of (plains_of (drop l.node-index l.kids))) (drop l.next l.entries)
-      ≡ in_lists l.initial.lists t ++ chosen t (nodes_of (plains_of l.kids)) (drop l.first l.entries);
+  listed : (t : Test) → in_lists l.lists t ++ chosen t l.next (nodes_of (plains_of (drop l.node-index l.kids))) (drop l.next l.entries)
+      ≡ in_lists l.initial.lists t ++ chosen t l.first (nodes_of (plains_of l.kids)) (drop l.first l.entries);
 }
