@@ -8,6 +8,8 @@ use std::test::Fail;
 use std::thread::Threads;
 use tb_edge::{MemSink, MemSource, OpenGate};
 
+mod stores;
+
 const NESTED: &[u8] =
     b"session\nload n\n(a\n(a\n(a\n)a\n)a\n)a\n.\nquery\nMATCH document(\"n\") (//- a (//- a))\n.\n";
 

@@ -1,11 +1,11 @@
 -- The entries of a list of kids are those of each kid, one after the other.
-use Rattle.std.proofs.Common.{◌≡◌, ℕ, ◌+◌, ◌*◌, ◌<◌, ◌≤◌, ◌^◌, List, [], ◌∷◌, ◌++◌, length, get_or, set, drop, vec_len, refl, sym, ap, ap₂, ◌∙◌, arith, rules, append_assoc, append-nil, length-append, Vec, Global}
+use Rattle.std.proofs.Common.{◌≡◌, ℕ, ◌+◌, ◌*◌, ◌<◌, ◌≤◌, ◌^◌, List, [], ◌∷◌, ◌++◌, length, set, drop, vec_len, refl, sym, ap, ap₂, ◌∙◌, arith, rules, append_assoc, append-nil, length-append, Vec, Global}
 use Rattle.std.proofs.lemmas.List.{set_at}
 use Rattle.tb_tree.specs.Plain.{Plain, elem, Plains, no_kids, kid, one}
 use Rattle.tb_tree.specs.View.{plain_of, plains_of}
 use Rattle.tb_tree.specs.Numbers.{counts, count}
 use Rattle.tb_tree.specs.Levels.{levels}
-use Rattle.tb_tree.specs.declared.node.Node.{Node, the_lemmas}
+use Rattle.tb_tree.specs.declared.node.Node.{the_lemmas}
 use Rattle.tb_tree.proofs.Numbering.{counts-kid}
 use Rattle.tb_tree.proofs.Views.{plain_of-Elem, plains_of-drop}
 use Rattle.tb_label.specs.declared.entry.Entry.{Entry}

@@ -1,10 +1,9 @@
 -- What is listed of kids is listed of each kid, one after the other.
-use Rattle.std.proofs.Common.{◌≡◌, ◌+◌, ◌<◌, ◌++◌, ℕ, List, drop, length, get_or, ap, ap₂, sym, ◌∙◌, arith, append_assoc}
+use Rattle.std.proofs.Common.{◌≡◌, ◌+◌, ◌++◌, ℕ, List, drop, ap, ap₂, sym, ◌∙◌, arith, append_assoc}
 use Rattle.tb_span.specs.declared.item.Item.{Item}
 use Rattle.tb_tree.specs.Plain.{Plain, Plains, kid, one}
 use Rattle.tb_tree.specs.View.{plain_of, plains_of}
 use Rattle.tb_tree.specs.Numbers.{count, counts}
-use Rattle.tb_tree.specs.declared.node.Node.{Node}
 use Rattle.tb_tree.specs.declared.node_test.Test.{Test}
 use Rattle.tb_tree.proofs.Numbering.{counts-kid}
 use Rattle.tb_tree.proofs.Views.{plains_of-drop}
