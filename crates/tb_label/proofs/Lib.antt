@@ -4,4 +4,5 @@ pub mod LinkLaws
 pub mod ListingLaws
 pub mod NodeLaws
 pub mod NestLaws
+pub mod AgreeLaws
 pub mod WorkedRows

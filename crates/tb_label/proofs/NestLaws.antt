@@ -12,12 +12,8 @@ use Rattle.tb_tree.specs.Meets.{meets}
 use Rattle.tb_tree.specs.declared.node_test.Test.{Test}
 use Rattle.tb_label.specs.Rows.{Row, rows_of, item_of, listed, document_label, Follows, inside, beside}
 use Rattle.tb_label.specs.Stores.{document_item_of}
-use Rattle.tb_tree.proofs.Alls.{all-weaker}
+use Rattle.tb_tree.proofs.Alls.{all-both, all-weaker}
 use Rattle.tb_label.proofs.RowLaws.{IsUnder, AllFollow, all_under, all_follow}
-
-all-both : {X : Type 0} (P Q : X → Type 0) (xs : List X) → AllByRecursion P xs → AllByRecursion Q xs → AllByRecursion (λ x. P x × Q x) xs
-all-both P Q [] p q = tt
-all-both P Q (x ∷ xs) p q = ((p.0, q.0), all-both P Q xs p.1 q.1)
 
 -- what holds of all elements holds of those that are kept
 kept-one : {X Y : Type 0} (Q : Y → Type 0) (f : X → Y) (x : X) (ys : List X) (keep : Bool) → Q (f x) → AllByRecursion Q (map f ys) → AllByRecursion Q (map f (if keep then x ∷ ys else ys))

@@ -1,5 +1,5 @@
 -- Each entry tells where its node stands: at the top, or as which kid of which node.
-use Rattle.std.proofs.Common.{◌≡◌, ℕ, zero, suc, ◌+◌, ◌-◌, ◌<◌, ◌≤◌, [], length, get_or, IsTrue, refl, sym, ap, ◌∙◌, subst, arith}
+use Rattle.std.proofs.Common.{◌≡◌, ℕ, zero, suc, ◌+◌, ◌-◌, ◌<◌, ◌≤◌, [], All, length, get_or, IsTrue, refl, sym, ap, ◌∙◌, subst, arith}
 use Rattle.std.proofs.lemmas.List.{get_or-map}
 use Rattle.std.proofs.lemmas.List.Elements.{All-from_recursion}
 use Rattle.tb_tree.specs.Plain.{Plain, elem, one, kids_of, is_element}
@@ -43,6 +43,10 @@ entry-row root n j q d is less =
 
 number-row : (root : Plain) (j : ℕ) (q : Row) → j < length (rows_of root) → (get_or (rows_of root) j q).number ≡ 1 + j
 number-row root j q less = counted-at 1 (rows_of root) j q (all_count_on 2 1 0 [] 0 (one root)) less
+
+-- The node of a row's number is the row's node: `list` and `node` speak of the same numbers.
+pub all_found : (root : Plain) → All (λ r. node_at root r.number ≡ r.node) (rows_of root)
+all_found root j q less = node-row root _ j q (number-row root j q less) less
 
 alone : (root : Plain) (m : ℕ) (node : Plain) → IsKid (one root) m node → root ≡ node
 alone root zero node is = is.1 root

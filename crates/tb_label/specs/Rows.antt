@@ -1,6 +1,6 @@
 -- The nodes of a document with their labels: the rows that a store keeps.
-use Rattle.std.specs.Prelude.{◌≡◌, ℕ, ◌+◌, ◌*◌, ◌<◌, List, [], ◌∷◌, ◌++◌, map, filter, length}
-use Rattle.tb_span.specs.Span.{Span, IsAbove, IsBefore}
+use Rattle.std.specs.Prelude.{◌≡◌, ◌↔◌, ℕ, ◌+◌, ◌*◌, ◌<◌, List, [], ◌∷◌, ◌++◌, map, filter, length}
+use Rattle.tb_span.specs.Span.{Span, Encloses, IsAbove, IsBefore}
 use Rattle.tb_span.specs.declared.item.Item.{Item}
 use Rattle.tb_tree.specs.Plain.{Plain, elem, attr, text, Plains, no_kids, kid}
 use Rattle.tb_tree.specs.Numbers.{counts, count}
@@ -73,7 +73,13 @@ abbrev pub IsLeftOf : List ℕ → List ℕ → Type 0
 IsLeftOf u v =
     (front : List ℕ) × (j : ℕ) × (k : ℕ) × (a : List ℕ) × (b : List ℕ) × (u ≡ front ++ j ∷ a) × (v ≡ front ++ k ∷ b) × (j < k)
 
--- Labels and places agree: a row that follows another is below it and inside its label, or right of it and
+-- Labels tell how two places stand, and nothing else does: one label encloses another exactly where the places
+-- are ancestor and descendant, and one ends before another starts exactly where its place stands left.
+pub record Agree (x y : Row) : Type 0 where
+  pub encloses : Encloses x.label y.label ↔ IsAncestor x.place y.place
+  pub before : IsBefore x.label y.label ↔ IsLeftOf x.place y.place
+
+-- Labels and places in document order: a row that follows another is below it and inside its label, or right of it and
 -- behind its label.
 pub data Follows (x y : Row) : Type 0 where
   inside : IsAncestor x.place y.place → IsAbove x.label y.label → Follows x y
