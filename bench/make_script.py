@@ -1,11 +1,11 @@
 #!/usr/bin/env python3
 """Prints a script that loads one large document and asks one query of it.
 
-    make_script.py SEED MEGABYTES [--same]
+    make_script.py SEED MEGABYTES [--same | --document]
 
 The document is random, and the same for the same words. It takes at most MEGABYTES million bytes,
 and falls short of them by less than one subtree. The query asks for each `part` with each `item`
-below it, or with each `part` below it where `--same` is given.
+below it, or with each `part` below it where `--same` is given. With `--document` the document's lines are printed alone.
 """
 
 import argparse
@@ -86,12 +86,18 @@ def main():
     words = argparse.ArgumentParser(description="Print a script of one load and one query.")
     words.add_argument("seed", type=int)
     words.add_argument("megabytes", type=float)
-    words.add_argument("--same", action="store_true", help="ask for one name twice")
+    form = words.add_mutually_exclusive_group()
+    form.add_argument("--same", action="store_true", help="ask for one name twice")
+    form.add_argument("--document", action="store_true", help="print the document alone")
     given = words.parse_args()
     second = FIRST if given.same else SECOND
+    most = int(given.megabytes * 1_000_000)
     with open(1, "wb", buffering=CHUNK) as out:
+        if given.document:
+            write_body(out, given.seed, most)
+            return
         out.write(b"session\nload %b\n" % DOCUMENT)
-        write_body(out, given.seed, int(given.megabytes * 1_000_000))
+        write_body(out, given.seed, most)
         query = b'MATCH document("%b") (//- %b (//- %b))' % (DOCUMENT, FIRST, second)
         out.write(b".\nquery\n%b\n.\n" % query)
 

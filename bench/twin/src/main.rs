@@ -5,14 +5,10 @@
 //! and write the transcript at once. `bench/run` compares the two outputs byte for byte.
 
 use std::fs::File;
-use std::io::{self, ErrorKind, Read, Write};
+use std::io::{self, Write};
 use std::os::fd::AsFd;
 use std::process::ExitCode;
-
-// Bytes of a script, bytes that one read asks for, and elements that may be open at once, at most.
-const MOST_BYTES: usize = 67_108_864;
-const BUFFER: usize = 65_536;
-const MOST_LEVELS: u32 = 512;
+use twin::{MOST_BYTES, Node, document, read_up_to_most};
 
 /// What a script names, and the lines of its document.
 struct Script<'a> {
@@ -21,15 +17,6 @@ struct Script<'a> {
     document: &'a [u8],
     first: &'a [u8],
     second: &'a [u8],
-}
-
-/// A node of a document. These scripts have elements alone; the other two stand here so that a node
-/// is as wide as in the proved program.
-#[allow(dead_code)]
-enum Node {
-    Elem { name: Vec<u8>, kids: Vec<Node> },
-    Attr { name: Vec<u8>, value: Vec<u8> },
-    Text { value: Vec<u8> },
 }
 
 /// The numbers of two matched nodes, in document order from 1. No line shows them, but the proved
@@ -51,28 +38,10 @@ fn main() -> io::Result<ExitCode> {
     Ok(ExitCode::from(status))
 }
 
-/// The bytes up to the end, or more than `MOST_BYTES` where there are more.
-fn read_up_to_most(source: &mut impl Read) -> io::Result<Vec<u8>> {
-    let mut buffer = vec![0; BUFFER];
-    let mut bytes = Vec::new();
-    while bytes.len() <= MOST_BYTES {
-        match source.read(&mut buffer) {
-            Ok(0) => break,
-            Ok(count) => bytes.extend_from_slice(&buffer[..count]),
-            Err(error) if error.kind() == ErrorKind::Interrupted => {}
-            Err(error) => return Err(error),
-        }
-    }
-    Ok(bytes)
-}
-
 /// What the script is answered, or `None` where the bytes aren't of the form.
 fn transcript_of(bytes: &[u8]) -> Option<Vec<u8>> {
     let script = script_of(bytes)?;
-    let (root, rest) = element(script.body, MOST_LEVELS)?;
-    if !rest.is_empty() {
-        return None;
-    }
+    let root = document(script.body)?;
     let mut matches = Vec::new();
     if script.name == script.document {
         push_matches(&root, 1, &script, &mut matches);
@@ -114,39 +83,6 @@ fn name_at(text: &[u8]) -> Option<(&[u8], &[u8])> {
 
 fn begins_name(text: &[u8]) -> bool {
     text.first().is_some_and(|byte| byte.is_ascii_alphabetic() || *byte == b'_' || *byte >= 128)
-}
-
-/// The element at the front, of at most `room` levels, and what follows it.
-fn element(bytes: &[u8], room: u32) -> Option<(Node, &[u8])> {
-    if room == 0 {
-        return None;
-    }
-    let (name, rest) = named_line(b'(', bytes)?;
-    let (kids, rest) = elements(rest, room - 1)?;
-    let (end, rest) = named_line(b')', rest)?;
-    let name = (name == end).then(|| name.to_vec())?;
-    Some((Node::Elem { name, kids }, rest))
-}
-
-/// The elements at the front, each of at most `room` levels, and what follows them.
-fn elements(bytes: &[u8], room: u32) -> Option<(Vec<Node>, &[u8])> {
-    let mut kids = Vec::new();
-    let mut rest = bytes;
-    while rest.first() == Some(&b'(') {
-        let (kid, behind) = element(rest, room)?;
-        kids.push(kid);
-        rest = behind;
-    }
-    Some((kids, rest))
-}
-
-/// The name in the line at the front, which begins with `lead`, and what follows the line.
-fn named_line(lead: u8, bytes: &[u8]) -> Option<(&[u8], &[u8])> {
-    let line = bytes.strip_prefix(&[lead])?;
-    let is_name_byte = |byte: u8| byte >= 33 && byte != 127 && byte != b'\\';
-    let len = line.iter().take_while(|byte| is_name_byte(**byte)).count();
-    let rest = line[len..].strip_prefix(b"\n")?;
-    (len > 0).then_some((&line[..len], rest))
 }
 
 /// Collects the matches whose first node is this one, which has that number, or stands below it.
