@@ -1,0 +1,9 @@
+pub mod Filters
+pub mod Tests
+pub mod Ranges
+pub mod Prefixes
+pub mod StackLaws
+pub mod RunLaws
+pub mod KeptLaws
+pub mod PairLaws
+pub mod JoinLaws

@@ -1,0 +1,24 @@
+-- The pairs of a structural join: the places of an ancestor and of a descendant in their two lists.
+use Rattle.std.specs.Prelude.{ℕ, ◌-◌, List, length, map, filter, flat_map}
+use Rattle.std.specs.List.{range_with_len}
+use Rattle.tb_span.specs.Span.{Span}
+use Rattle.tb_span.specs.Lists.{is_related}
+use Rattle.tb_span.specs.Seeds.{label_at, places}
+use Rattle.tb_span.specs.declared.item.Axis.{Axis}
+use Rattle.tb_span.specs.declared.item.Item.{Item}
+use Rattle.tb_span.specs.declared.item.Pair.{Pair}
+
+abbrev pub pair : ℕ → ℕ → Pair
+pair i j = record { a = i; d = j }
+
+-- the places in `a` of all that have the label v on the axis, in order
+abbrev pub above : Axis → List Item → Span → List ℕ
+above axis a v = filter (λ i. is_related axis (label_at a i) v) (places (length a))
+
+-- all pairs of the descendant at place j, by ancestor
+abbrev pub pairs_of : Axis → List Item → List Item → ℕ → List Pair
+pairs_of axis a d j = map (λ i. pair i j) (above axis a (label_at d j))
+
+-- all pairs of the descendants from place lo up to hi, by descendant and then by ancestor
+abbrev pub pairs_by_descendant : Axis → List Item → List Item → ℕ → ℕ → List Pair
+pairs_by_descendant axis a d lo hi = flat_map (pairs_of axis a d) (range_with_len lo (hi - lo))

@@ -1,0 +1,11 @@
+//! Structural joins: the pairs of nodes of two lists that stand in one another.
+//!
+//! `join_desc` is Stack-Tree-Desc (Al-Khalifa and others, ICDE 2002) on a range of descendants. What is proved
+//! is which pairs it gives, in which order (`pairs`), and how many labels it compares at most (`cost`).
+#![tactic(auto)]
+
+mod by_descendant;
+mod pairing;
+mod stack;
+
+pub use by_descendant::join_desc;
