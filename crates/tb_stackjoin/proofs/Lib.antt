@@ -7,3 +7,4 @@ pub mod RunLaws
 pub mod KeptLaws
 pub mod PairLaws
 pub mod JoinLaws
+pub mod WorkedRows

@@ -1,8 +1,8 @@
 -- The pairs of a descendant are those of the stack, and the pairs of a range those of its descendants in turn.
-use Rattle.std.proofs.Common.{◌≡◌, ℕ, ◌+◌, ◌-◌, ◌<◌, ◌≤◌, true, false, ◌&&◌, nat_lt, nat_eq, List, [], ◌∷◌, ◌++◌, length, get_or, filter, flat_map, refl, sym, ap, ◌∙◌, subst, arith, append-nil}
+use Rattle.std.proofs.Common.{◌≡◌, ℕ, ◌+◌, ◌-◌, ◌<◌, ◌≤◌, true, false, ◌&&◌, nat_lt, nat_eq, List, [], ◌∷◌, ◌++◌, length, get_or, filter, flat_map, refl, sym, ap, ◌∙◌, subst, arith, append-nil, append_assoc}
 use Rattle.std.specs.List.{range_with_len}
 use Rattle.std.proofs.lemmas.Bool.{le-leb, ltb-true, lt-ltb, and_parts, and_from, and_right, ne_eqb, eq-eqb, false_from_ne_true}
-use Rattle.std.proofs.lemmas.List.{get_or_append_left, get_or_at, length_push}
+use Rattle.std.proofs.lemmas.List.{map-append, get_or_append_left, get_or_at, length_push}
 use Rattle.std.proofs.lemmas.List.Elements.{filter-append}
 use Rattle.std.proofs.lemmas.Grind.{flat_map-append}
 use Rattle.tb_span.specs.Span.{Span, IsAbove}
@@ -11,9 +11,10 @@ use Rattle.tb_span.specs.Seeds.{label_at, places}
 use Rattle.tb_span.specs.declared.item.Axis.{Axis}
 use Rattle.tb_span.specs.declared.item.Axis.TheVariants.{Child, Descendant}
 use Rattle.tb_span.specs.declared.item.Item.{Item}
-use Rattle.tb_stackjoin.specs.Pairs.{above, pairs_of, pairs_by_descendant}
+use Rattle.tb_span.specs.declared.item.Pair.{Pair}
+use Rattle.tb_stackjoin.specs.Pairs.{pair, above, paired, related_places, pairs_of, pairs_by_descendant}
 use Rattle.tb_stackjoin.specs.Stacks.{IsStack, AreAbove, lasts}
-use Rattle.tb_stackjoin.proofs.Filters.{filter_all, filter_none, filter_filter, filter-keep, filter-skip}
+use Rattle.tb_stackjoin.proofs.Filters.{filter_all, filter_none, filter_filter, filter-keep, filter-skip, filter_push-yes, filter_push-no}
 use Rattle.tb_stackjoin.proofs.Ranges.{All-range, range_more, range_none}
 use Rattle.tb_stackjoin.proofs.KeptLaws.{places_join}
 
@@ -107,3 +108,23 @@ pairs-more axis a d lo j low =
     ap (λ js. flat_map (pairs_of axis a d) js) (range_more lo j low)
     ∙ flat_map-append (pairs_of axis a d) (range_with_len lo (j - lo)) (j ∷ [])
     ∙ ap (λ ps. pairs_by_descendant axis a d lo j ++ ps) (append-nil (pairs_of axis a d j))
+
+places-more : (n : ℕ) → places (n + 1) ≡ places n ++ n ∷ []
+places-more n =
+    let one : n + 1 - n ≡ 1 = omega arith in
+    sym (places_join n (n + 1) (omega arith)) ∙ ap (λ k. places n ++ range_with_len n k) one
+
+-- one ancestor more, on the axis or not
+pub related-yes : (axis : Axis) (a : List Item) (v : Span) (n : ℕ) → is_related axis (label_at a n) v ≡ true
+    → related_places axis a v (places (n + 1)) ≡ related_places axis a v (places n) ++ n ∷ []
+related-yes axis a v n e =
+    ap (λ xs. related_places axis a v xs) (places-more n) ∙ filter_push-yes (λ i. is_related axis (label_at a i) v) (places n) n e
+
+pub related-no : (axis : Axis) (a : List Item) (v : Span) (n : ℕ) → is_related axis (label_at a n) v ≡ false
+    → related_places axis a v (places (n + 1)) ≡ related_places axis a v (places n)
+related-no axis a v n e =
+    ap (λ xs. related_places axis a v xs) (places-more n) ∙ filter_push-no (λ i. is_related axis (label_at a i) v) (places n) n e
+
+pub paired-push : (before : List Pair) (is : List ℕ) (i j : ℕ) → (before ++ paired is j) ++ pair i j ∷ [] ≡ before ++ paired (is ++ i ∷ []) j
+paired-push before is i j =
+    append_assoc before (paired is j) (pair i j ∷ []) ∙ ap (λ ps. before ++ ps) (sym (map-append (λ k. pair k j) is (i ∷ [])))

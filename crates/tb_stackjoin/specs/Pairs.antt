@@ -11,13 +11,21 @@ use Rattle.tb_span.specs.declared.item.Pair.{Pair}
 abbrev pub pair : ℕ → ℕ → Pair
 pair i j = record { a = i; d = j }
 
--- the places in `a` of all that have the label v on the axis, in order
+-- those of the places in `a` that have the label v on the axis
+abbrev pub related_places : Axis → List Item → Span → List ℕ → List ℕ
+related_places axis a v is = filter (λ i. is_related axis (label_at a i) v) is
+
+-- all places in `a` that have the label v on the axis, in order
 abbrev pub above : Axis → List Item → Span → List ℕ
-above axis a v = filter (λ i. is_related axis (label_at a i) v) (places (length a))
+above axis a v = related_places axis a v (places (length a))
+
+-- the pairs of the descendant at place j with these ancestors
+abbrev pub paired : List ℕ → ℕ → List Pair
+paired ancestors j = map (λ i. pair i j) ancestors
 
 -- all pairs of the descendant at place j, by ancestor
 abbrev pub pairs_of : Axis → List Item → List Item → ℕ → List Pair
-pairs_of axis a d j = map (λ i. pair i j) (above axis a (label_at d j))
+pairs_of axis a d j = paired (above axis a (label_at d j)) j
 
 -- all pairs of the descendants from place lo up to hi, by descendant and then by ancestor
 abbrev pub pairs_by_descendant : Axis → List Item → List Item → ℕ → ℕ → List Pair

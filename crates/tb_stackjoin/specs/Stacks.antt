@@ -1,4 +1,4 @@
--- What a join's stack is: not the code's, but which places are on it for each point still to come.
+-- Stacks of places, and what a join knows of its own: which places are on it for each point still to come.
 use Rattle.std.specs.Prelude.{◌≡◌, ℕ, ◌+◌, ◌-◌, ◌<◌, ◌≤◌, Bool, nat_le, List, ◌++◌, All, AllPairs, drop, filter}
 use Rattle.std.specs.List.{range_with_len, prefix_len}
 use Rattle.tb_span.specs.Span.{Span, IsAbove}

@@ -1,10 +1,10 @@
 //! Stack-Tree-Desc (Al-Khalifa and others, ICDE 2002): pairs by descendant.
 
-ghost use Rattle.std.specs.Prelude.{◌≡◌, ◌+◌, ◌-◌, ◌*◌, ◌^◌, ◌<◌, ◌≤◌, length, IfOk};
+ghost use Rattle.std.specs.Prelude.{◌≡◌, ◌+◌, ◌^◌, ◌<◌, ◌≤◌, length, IfOk};
 ghost use Rattle.tb_span.specs.Lists.{AreJoinable};
 ghost use Rattle.tb_span.specs.Seeds.{IsSeed};
 ghost use Rattle.tb_stackjoin.specs.Pairs.{pairs_by_descendant};
-ghost use Rattle.tb_stackjoin.specs.Turns.{turns};
+ghost use Rattle.tb_stackjoin.specs.Turns.{most_steps};
 
 use crate::pairing::pair_all;
 use crate::stack::{Stack, label_of, pop_ended, push_started};
@@ -31,7 +31,7 @@ pub fn join_desc<L: Ledger>(
     requires range { (lo ≤ hi) × (hi ≤ length d.now) × (from ≤ length a.now) }
     requires seeded { IsSeed a.now d.now seed.now from lo hi }
     ensures pairs { IfOk result (λ pairs. pairs.items ≡ pairs_by_descendant axis a.now d.now lo hi) }
-    ensures cost { steps.new ≤ steps.old + (6 * (turns a.now d.now from lo hi + length seed.now) + 4 * (hi - lo)) }
+    ensures cost { steps.new ≤ steps.old + most_steps a.now d.now seed.now from lo hi }
 {
     let mut stack = Stack::from_slice(alloc, seed)?;
     let mut next = from;

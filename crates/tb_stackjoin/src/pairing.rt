@@ -1,10 +1,8 @@
 //! The pairs of one descendant, from the ancestors on the stack.
 
-ghost use Rattle.std.specs.Prelude.{◌≡◌, ◌+◌, ◌++◌, ◌≤◌, length, map, filter, OnOk};
-ghost use Rattle.tb_span.specs.Lists.{is_related};
-ghost use Rattle.tb_span.specs.Seeds.{label_at};
+ghost use Rattle.std.specs.Prelude.{◌≡◌, ◌+◌, ◌++◌, ◌≤◌, length, OnOk};
 ghost use Rattle.tb_span.specs.declared.item.Axis.TheVariants.{Child};
-ghost use Rattle.tb_stackjoin.specs.Pairs.{pair};
+ghost use Rattle.tb_stackjoin.specs.Pairs.{paired, related_places};
 ghost use Rattle.tb_stackjoin.specs.Stacks.{IsStack, AreAbove};
 
 use crate::stack::label_of;
@@ -14,7 +12,7 @@ use tb_span::{Axis, Item, Label, Pair, Steps};
 
 /// Pairs the descendant with each place on the stack.
 fn pair_each(stack: &[u32], place: u32, pairs: &mut Vec<Pair>) -> Result<(), AllocError>
-    ensures { OnOk result (pairs.new.items ≡ pairs.old.items ++ map (λ i. pair i place) stack.now) }
+    ensures { OnOk result (pairs.new.items ≡ pairs.old.items ++ paired stack.now place) }
 {
     'each: for ancestor in stack {
         pairs.push(Pair {
@@ -36,7 +34,7 @@ fn pair_parent<L: Ledger>(
 ) -> Result<(), AllocError>
     requires stacked { IsStack a.now (length a.now) stack.now }
     requires above { AreAbove a.now stack.now label.now }
-    ensures pairs { OnOk result (pairs.new.items ≡ pairs.old.items ++ map (λ i. pair i place) (filter (λ i. is_related Child (label_at a.now i) label.now) stack.now)) }
+    ensures pairs { OnOk result (pairs.new.items ≡ pairs.old.items ++ paired (related_places Child a.now label.now stack.now) place) }
     ensures cost { steps.new ≤ steps.old + 1 }
 {
     let Some(top) = stack.last() else {
@@ -60,7 +58,7 @@ pub fn pair_all<L: Ledger>(
 ) -> Result<(), AllocError>
     requires stacked { IsStack a.now (length a.now) stack.now }
     requires above { AreAbove a.now stack.now label.now }
-    ensures pairs { OnOk result (pairs.new.items ≡ pairs.old.items ++ map (λ i. pair i place) (filter (λ i. is_related axis (label_at a.now i) label.now) stack.now)) }
+    ensures pairs { OnOk result (pairs.new.items ≡ pairs.old.items ++ paired (related_places axis a.now label.now stack.now) place) }
     ensures cost { steps.new ≤ steps.old + 1 }
 {
     match axis {
