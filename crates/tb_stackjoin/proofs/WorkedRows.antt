@@ -1,0 +1,43 @@
+-- Pairs and bounds of small joins, computed.
+use Rattle.std.proofs.Common.{◌≡◌, ℕ, List, [], ◌∷◌, refl}
+use Rattle.tb_span.specs.Seeds.{open_places}
+use Rattle.tb_span.specs.declared.item.Axis.TheVariants.{Child, Descendant}
+use Rattle.tb_span.specs.declared.item.Item.{Item}
+use Rattle.tb_stackjoin.specs.Pairs.{pair, pairs_by_descendant}
+use Rattle.tb_stackjoin.specs.Turns.{most_steps}
+
+abbrev item : ℕ → ℕ → ℕ → ℕ → Item
+item start end level number = record { label = record { start = start; end = end; level = level }; node = number }
+
+-- three nested elements
+abbrev nested : List Item
+nested = item 2 7 1 1 ∷ item 3 6 2 2 ∷ item 4 5 3 3 ∷ []
+
+-- each with all that it is inside of, and none with itself
+nested-descendants : pairs_by_descendant Descendant nested nested 0 3 ≡ pair 0 1 ∷ pair 0 2 ∷ pair 1 2 ∷ []
+nested-descendants = refl
+
+nested-children : pairs_by_descendant Child nested nested 0 3 ≡ pair 0 1 ∷ pair 1 2 ∷ []
+nested-children = refl
+
+nested-steps : most_steps nested nested [] 0 0 3 ≡ 24
+nested-steps = refl
+
+no_descendants : pairs_by_descendant Descendant nested [] 0 0 ≡ []
+no_descendants = refl
+
+no_descendants-steps : most_steps nested [] [] 0 0 0 ≡ 0
+no_descendants-steps = refl
+
+-- the range of the third element alone: two are open where it starts
+third-seed : open_places nested 2 4 ≡ 0 ∷ 1 ∷ []
+third-seed = refl
+
+third-descendants : pairs_by_descendant Descendant nested nested 2 3 ≡ pair 0 2 ∷ pair 1 2 ∷ []
+third-descendants = refl
+
+third-children : pairs_by_descendant Child nested nested 2 3 ≡ pair 1 2 ∷ []
+third-children = refl
+
+third-steps : most_steps nested nested (0 ∷ 1 ∷ []) 2 2 3 ≡ 16
+third-steps = refl
