@@ -7,4 +7,5 @@ pub mod RunLaws
 pub mod KeptLaws
 pub mod PairLaws
 pub mod JoinLaws
+pub mod ListedLaws
 pub mod WorkedRows
