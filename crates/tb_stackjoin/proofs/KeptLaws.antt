@@ -8,7 +8,8 @@ use Rattle.tb_span.specs.Seeds.{no_item, label_at, places, is_open_at, open_plac
 use Rattle.tb_span.specs.declared.item.Item.{Item}
 use Rattle.tb_stackjoin.specs.Stacks.{lasts}
 use Rattle.tb_stackjoin.proofs.Filters.{filter_filter}
-use Rattle.tb_stackjoin.proofs.Ranges.{range_join, range_more, All-range}
+use Rattle.tb_stackjoin.proofs.Ranges.{range_more, All-range}
+use Rattle.tb_stackjoin.proofs.PlaceLaws.{places_join}
 use Rattle.tb_stackjoin.proofs.RunLaws.{start_rises}
 use Rattle.tb_stackjoin.proofs.StackLaws.{nest_above}
 
@@ -33,12 +34,6 @@ kept_push a p q first next before old new le low is had =
     ∙ ap (λ xs. xs ++ filter f (next ∷ [])) (kept_pop a p q old (filter (lasts a p) old) le refl ∙ had)
     ∙ append_assoc (filter f before) (filter f passed) (filter f (next ∷ []))
     ∙ ap (λ xs. filter f before ++ xs) (sym (filter-append f passed (next ∷ [])) ∙ ap (λ xs. filter f xs) (sym (range_more first next low)))
-
-pub places_join : (m n : ℕ) → m ≤ n → places m ++ range_with_len m (n - m) ≡ places n
-places_join m n le =
-    let start : m ≡ 0 + m = omega arith in
-    let whole : m + (n - m) ≡ n = omega arith in
-    ap (λ k. places m ++ range_with_len k (n - m)) start ∙ range_join 0 m (n - m) ∙ ap places whole
 
 -- all ancestors that start before a descendant
 pub kept_all : (a : List Item) (q first next : ℕ) (old new : List ℕ) → first ≤ next

@@ -1,6 +1,7 @@
 pub mod Filters
-pub mod Tests
+pub mod Told
 pub mod Ranges
+pub mod PlaceLaws
 pub mod Prefixes
 pub mod StackLaws
 pub mod RunLaws

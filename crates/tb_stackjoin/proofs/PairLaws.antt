@@ -14,9 +14,9 @@ use Rattle.tb_span.specs.declared.item.Item.{Item}
 use Rattle.tb_span.specs.declared.item.Pair.{Pair}
 use Rattle.tb_stackjoin.specs.Pairs.{pair, above, paired, related_places, pairs_of, pairs_by_descendant}
 use Rattle.tb_stackjoin.specs.Stacks.{IsStack, AreAbove, lasts}
-use Rattle.tb_stackjoin.proofs.Filters.{filter_all, filter_none, filter_filter, filter-keep, filter-skip, filter_push-yes, filter_push-no}
+use Rattle.tb_stackjoin.proofs.Filters.{filter_all, filter_none, filter_filter, filter-keep, filter-skip}
 use Rattle.tb_stackjoin.proofs.Ranges.{All-range, range_more, range_none}
-use Rattle.tb_stackjoin.proofs.KeptLaws.{places_join}
+use Rattle.tb_stackjoin.proofs.PlaceLaws.{places_join, filter_places-yes, filter_places-no}
 
 -- on either axis the ancestor contains the descendant
 pub related_inside : (axis : Axis) (u v : Span) → is_related axis u v ≡ true → (u.start < v.start) × (v.end < u.end)
@@ -109,21 +109,14 @@ pairs-more axis a d lo j low =
     ∙ flat_map-append (pairs_of axis a d) (range_with_len lo (j - lo)) (j ∷ [])
     ∙ ap (λ ps. pairs_by_descendant axis a d lo j ++ ps) (append-nil (pairs_of axis a d j))
 
-places-more : (n : ℕ) → places (n + 1) ≡ places n ++ n ∷ []
-places-more n =
-    let one : n + 1 - n ≡ 1 = omega arith in
-    sym (places_join n (n + 1) (omega arith)) ∙ ap (λ k. places n ++ range_with_len n k) one
-
 -- one ancestor more, on the axis or not
 pub related-yes : (axis : Axis) (a : List Item) (v : Span) (n : ℕ) → is_related axis (label_at a n) v ≡ true
     → related_places axis a v (places (n + 1)) ≡ related_places axis a v (places n) ++ n ∷ []
-related-yes axis a v n e =
-    ap (λ xs. related_places axis a v xs) (places-more n) ∙ filter_push-yes (λ i. is_related axis (label_at a i) v) (places n) n e
+related-yes axis a v n e = filter_places-yes (λ i. is_related axis (label_at a i) v) n e
 
 pub related-no : (axis : Axis) (a : List Item) (v : Span) (n : ℕ) → is_related axis (label_at a n) v ≡ false
     → related_places axis a v (places (n + 1)) ≡ related_places axis a v (places n)
-related-no axis a v n e =
-    ap (λ xs. related_places axis a v xs) (places-more n) ∙ filter_push-no (λ i. is_related axis (label_at a i) v) (places n) n e
+related-no axis a v n e = filter_places-no (λ i. is_related axis (label_at a i) v) n e
 
 pub paired-push : (before : List Pair) (is : List ℕ) (i j : ℕ) → (before ++ paired is j) ++ pair i j ∷ [] ≡ before ++ paired (is ++ i ∷ []) j
 paired-push before is i j =

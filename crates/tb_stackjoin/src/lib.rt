@@ -12,3 +12,6 @@ mod stack;
 
 pub use by_descendant::join_desc;
 pub use naive::naive_join;
+
+#[cfg(test)]
+mod tests;

@@ -1,7 +1,7 @@
 use Rattle.std.proofs.Common.{◌<◌, ◌++◌, ◌∷◌, [], ◌∙◌, ap, subst, arith}
 use Rattle.tb_span.specs.Span.{Span}
 use Rattle.tb_span.specs.Seeds.{label_at}
-use Rattle.tb_stackjoin.proofs.Tests.{less-told}
+use Rattle.tb_stackjoin.proofs.Told.{less-told}
 use Rattle.tb_stackjoin.proofs.StackLaws.{IsStack-pushed}
 use Rattle.tb_stackjoin.proofs.RunLaws.{run_more}
 use Rattle.tb_stackjoin.proofs.KeptLaws.{kept_push}

@@ -1,0 +1,370 @@
+//! What no clause says: that joins succeed with ample memory, and small joins whose pairs were worked by hand.
+
+ghost use Rattle.std.specs.Prelude.{◌≡◌, ℕ, ◌<◌, ◌≤◌, ◌^◌, All, AllPairs, IsTrue, IfOk, length, map};
+ghost use Rattle.tb_span.specs.Span.{IsAbove, Nests};
+ghost use Rattle.tb_span.specs.Lists.{AreJoinable};
+ghost use Rattle.tb_span.specs.Seeds.{label_at, is_open_at, open_places, IsSeed};
+
+use super::*;
+use std::alloc::{AllocError, Global};
+use std::marker::Brand;
+use std::sync::ledger::{Blank, Ledger};
+use std::test::Fail;
+use tb_span::{Axis, Item, Label, NodeId, Pair, Steps};
+
+/// An item beside the numbers of its label, which the item itself doesn't show.
+#[derive(Clone, Copy)]
+struct Known {
+    item: Item,
+    start: u32,
+    end: u32,
+    level: u16,
+    ghost start_is: { item.label.start ≡ start },
+    ghost end_is: { item.label.end ≡ end },
+    ghost level_is: { item.label.level ≡ level },
+}
+
+fn known_item(start: u32, end: u32, level: u16) -> Option<Known> {
+    let label = Label::new(start, end, level)?;
+    let node = NodeId::new(start);
+    Some(Known {
+        item: Item { label, node },
+        start,
+        end,
+        level,
+    })
+}
+
+fn known_list(alloc: Global, numbers: &[(u32, u32, u16)]) -> Result<Vec<Known>, Fail> {
+    let mut list = Vec::new(alloc);
+    for (start, end, level) in numbers {
+        list.push(known_item(*start, *end, *level).ok_or("a label ends before it starts")?)?;
+    }
+    Ok(list)
+}
+
+fn is_above(u: &Known, v: &Known) -> bool
+    ensures { IsTrue result → IsAbove u.now.item.label v.now.item.label }
+{
+    u.start < v.start && v.end < u.end && u.level < v.level
+}
+
+fn is_same(u: &Known, v: &Known) -> bool
+    ensures { IsTrue result → u.now.item.label ≡ v.now.item.label }
+{
+    u.start == v.start && u.end == v.end && u.level == v.level
+}
+
+fn nest(u: &Known, v: &Known) -> bool
+    ensures { IsTrue result → Nests u.now.item.label v.now.item.label }
+{
+    if u.end < v.start {
+        return true;
+    }
+    if v.end < u.start {
+        return true;
+    }
+    if is_above(u, v) {
+        return true;
+    }
+    if is_above(v, u) {
+        return true;
+    }
+    is_same(u, v)
+}
+
+fn nests_with_all(u: &Known, vs: &[Known]) -> bool
+    ensures { IsTrue result → All (λ v. Nests u.now.item.label v.item.label) vs.now }
+{
+    'all: for v in vs {
+        if !nest(u, v) {
+            return false;
+        }
+    }
+    true
+}
+
+fn all_nest(us: &[Known], vs: &[Known]) -> bool
+    ensures { IsTrue result → All (λ u. All (λ v. Nests u.item.label v.item.label) vs.now) us.now }
+{
+    'all: for u in us {
+        if !nests_with_all(u, vs) {
+            return false;
+        }
+    }
+    true
+}
+
+fn starts_before_all(u: &Known, vs: &[Known]) -> bool
+    ensures { IsTrue result → All (λ v. u.now.item.label.start < v.item.label.start) vs.now }
+{
+    'all: for v in vs {
+        if u.start >= v.start {
+            return false;
+        }
+    }
+    true
+}
+
+fn rises(us: &[Known]) -> bool
+    ensures { IsTrue result → AllPairs (λ u v. u.item.label.start < v.item.label.start) us.now }
+{
+    'all: for place in 0..us.len() {
+        if !starts_before_all(&us[place], &us[place + 1..]) {
+            return false;
+        }
+    }
+    true
+}
+
+fn are_joinable(a: &[Known], d: &[Known]) -> bool
+    ensures { IsTrue result → AreJoinable (map (λ u. u.item) a.now) (map (λ u. u.item) d.now) }
+{
+    if !rises(a) {
+        return false;
+    }
+    if !rises(d) {
+        return false;
+    }
+    if !all_nest(a, a) {
+        return false;
+    }
+    if !all_nest(d, d) {
+        return false;
+    }
+    all_nest(a, d)
+}
+
+fn items_of(alloc: Global, list: &[Known]) -> Result<Vec<Item>, AllocError>
+    ensures { IfOk result (λ items. items.items ≡ map (λ u. u.item) list.now) }
+{
+    let mut items = Vec::new(alloc);
+    'all: for u in list {
+        items.push(u.item)?;
+    }
+    Ok(items)
+}
+
+fn is_open(u: &Known, point: u32) -> bool
+    ensures { result ≡ is_open_at point u.now.item.label }
+{
+    u.start < point && point < u.end
+}
+
+// The places below `from` that are open at the point.
+fn open_at(alloc: Global, list: &[Known], from: u32, point: u32) -> Result<Vec<u32>, AllocError>
+    requires { from ≤ length list.now }
+    ensures { IfOk result (λ seed. seed.items ≡ open_places (map (λ u. u.item) list.now) from point) }
+{
+    let mut seed = Vec::new(alloc);
+    'all: for place in 0..from {
+        if !is_open(&list[place as usize], point) {
+            continue;
+        }
+        seed.push(place)?;
+    }
+    Ok(seed)
+}
+
+// How many items start before the point, from the front on.
+fn started_before(list: &[Known], point: u32) -> u32
+    requires { length list.now < 2 ^ 32 }
+    ensures within { result ≤ length list.now }
+    ensures started { (i : ℕ) → i < result → (label_at (map (λ u. u.item) list.now) i).start < point }
+{
+    let mut from = 0;
+    'all: while (from as usize) < list.len() {
+        if list[from as usize].start >= point {
+            return from;
+        }
+        from += 1;
+    }
+    from
+}
+
+/// The seed of a range, and how many items start before it.
+#[derive(Drop)]
+struct Seed {
+    from: u32,
+    places: Vec<u32>,
+}
+
+// The seed of the range from place `lo` to the end of `d`.
+fn seed_of(alloc: Global, a: &[Known], d: &[Known], lo: u32) -> Result<Seed, AllocError>
+    requires few { (length a.now < 2 ^ 32) × (length d.now < 2 ^ 32) }
+    requires within { lo ≤ length d.now }
+    ensures from { IfOk result (λ seed. seed.from ≤ length a.now) }
+    ensures seed { IfOk result (λ seed. IsSeed (map (λ u. u.item) a.now) (map (λ u. u.item) d.now) seed.places.items seed.from lo (length d.now)) }
+{
+    if lo as usize == d.len() {
+        return Ok(Seed {
+            from: 0,
+            places: Vec::new(alloc),
+        });
+    }
+    let point = d[lo as usize].start;
+    let from = started_before(a, point);
+    let places = open_at(alloc, a, from, point)?;
+    Ok(Seed { from, places })
+}
+
+/// The seed of a range, and the pairs of the range.
+#[derive(Drop)]
+struct Outcome {
+    seed: Vec<u32>,
+    pairs: Vec<Pair>,
+}
+
+// Joins the range from place `lo` to the end of `d`, and compares its pairs with those of the twin.
+fn joined<L: Ledger>(
+    alloc: Global,
+    blank: Blank,
+    a: &[Known],
+    d: &[Known],
+    lo: u32,
+    axis: Axis,
+) -> Result<Outcome, Fail>
+    requires name { blank.name ≡ L.name }
+    requires parts { blank.parts ≡ L.parts }
+    requires some { 0 < L.parts }
+    requires few { (length a.now < 2 ^ 32) × (length d.now < 2 ^ 32) }
+    requires within { lo ≤ length d.now }
+{
+    if !are_joinable(a, d) {
+        Err("the lists can't be joined")?;
+    }
+    let Seed { from, places } = seed_of(alloc, a, d, lo)?;
+    let hi = d.len() as u32;
+    let a = items_of(alloc, a)?;
+    let d = items_of(alloc, d)?;
+    let mut steps = Steps::<L>::new(blank);
+    let pairs = join_desc(alloc, &a, &d, &places, from, lo, hi, axis, &mut steps)?;
+    let plain = naive_join(alloc, &a, &d, lo, hi, axis, &mut steps)?;
+    if pairs != plain {
+        Err("the join and its twin differ")?;
+    }
+    Ok(Outcome {
+        seed: places,
+        pairs,
+    })
+}
+
+// The same with a ledger of its own, for lists of any length.
+fn joined_from(
+    alloc: Global,
+    a: &[Known],
+    d: &[Known],
+    lo: usize,
+    axis: Axis,
+) -> Result<Outcome, Fail> {
+    if a.len() > 1_000_000 {
+        Err("too many ancestors")?;
+    }
+    if d.len() > 1_000_000 {
+        Err("too many descendants")?;
+    }
+    if lo > d.len() {
+        Err("a range behind the list")?;
+    }
+    joined::<Brand>(alloc, Blank::new(1), a, d, lo as u32, axis)
+}
+
+// Joins from some cuts, and gives how many pairs the whole join has.
+fn pairs_in_all(alloc: Global, a: &[Known], d: &[Known], axis: Axis) -> Result<usize, Fail> {
+    for lo in [d.len() / 3, d.len() / 2, d.len()] {
+        joined_from(alloc, a, d, lo, axis)?;
+    }
+    Ok(joined_from(alloc, a, d, 0, axis)?.pairs.len())
+}
+
+// As many nodes inside each other as an u16 can count, or fewer.
+fn chain(alloc: Global, length: u16) -> Result<Vec<(u32, u32, u16)>, AllocError> {
+    let mut numbers = Vec::new(alloc);
+    for level in 1..=length {
+        let start = u32::from(level);
+        numbers.push((start, 200_000 - start, level))?;
+    }
+    Ok(numbers)
+}
+
+fn numbers_of(alloc: Global, pairs: &[Pair]) -> Result<Vec<(u32, u32)>, AllocError> {
+    let mut numbers = Vec::new(alloc);
+    for pair in pairs {
+        numbers.push((pair.a, pair.d))?;
+    }
+    Ok(numbers)
+}
+
+const NESTED: &[(u32, u32, u16)] = &[(2, 7, 1), (3, 6, 2), (4, 5, 3)];
+
+const FLAT: &[(u32, u32, u16)] = &[(2, 3, 2), (4, 5, 2), (6, 7, 2), (8, 9, 2)];
+
+const TREE: &[(u32, u32, u16)] = &[
+    (2, 13, 1),
+    (3, 8, 2),
+    (4, 5, 3),
+    (6, 7, 3),
+    (9, 12, 2),
+    (10, 11, 3),
+];
+
+const UPPER: &[(u32, u32, u16)] = &[(2, 13, 1), (3, 8, 2), (9, 12, 2)];
+
+const LOWER: &[(u32, u32, u16)] = &[(4, 5, 3), (6, 7, 3), (10, 11, 3)];
+
+const BEHIND: &[(u32, u32, u16)] = &[(14, 17, 1), (15, 16, 2)];
+
+#[test]
+fn nested_elements_join_with_each_open_ancestor(rt: HostRuntime) -> Result<(), Fail> {
+    let list = known_list(rt.alloc(), NESTED)?;
+    let none: &[u32] = &[];
+    let all: &[(u32, u32)] = &[(0, 1), (0, 2), (1, 2)];
+    let rows = [
+        (0, Axis::Descendant, none, all),
+        (0, Axis::Child, none, &[(0, 1), (1, 2)]),
+        (2, Axis::Descendant, &[0, 1], &[(0, 2), (1, 2)]),
+        (2, Axis::Child, &[0, 1], &[(1, 2)]),
+    ];
+    for (lo, axis, seed, pairs) in rows {
+        let outcome = joined_from(rt.alloc(), &list, &list, lo, axis)?;
+        assert_eq!(rt; outcome.seed.as_slice(), seed);
+        assert_eq!(rt; numbers_of(rt.alloc(), &outcome.pairs)?.as_slice(), pairs);
+    }
+    Ok(())
+}
+
+#[test]
+fn each_shape_of_lists_has_the_pairs_of_its_nested_loops(rt: HostRuntime) -> Result<(), Fail> {
+    let long = chain(rt.alloc(), 512)?;
+    let rows = [
+        ("flat", FLAT, FLAT, 0, 0),
+        (
+            "a chain of 512",
+            long.as_slice(),
+            long.as_slice(),
+            130_816,
+            511,
+        ),
+        ("equal lists", TREE, TREE, 8, 5),
+        ("one list inside the other", UPPER, LOWER, 6, 3),
+        ("the lists the other way round", LOWER, UPPER, 0, 0),
+        ("no overlap", TREE, BEHIND, 0, 0),
+        ("no descendants", NESTED, &[], 0, 0),
+        ("no ancestors", &[], NESTED, 0, 0),
+    ];
+    for (name, above, below, descendants, kids) in rows {
+        let a = known_list(rt.alloc(), above)?;
+        let d = known_list(rt.alloc(), below)?;
+        assert_eq!(rt;
+            pairs_in_all(rt.alloc(), &a, &d, Axis::Descendant)?,
+            descendants,
+            "{name}"
+        );
+        assert_eq!(rt;
+            pairs_in_all(rt.alloc(), &a, &d, Axis::Child)?,
+            kids,
+            "{name}, by child"
+        );
+    }
+    Ok(())
+}
