@@ -1,5 +1,5 @@
 -- Stacks of places, and what a join knows of its own: which places are on it for each point still to come.
-use Rattle.std.specs.Prelude.{◌≡◌, ℕ, ◌+◌, ◌-◌, ◌<◌, ◌≤◌, Bool, nat_le, List, ◌++◌, All, AllPairs, drop, filter}
+use Rattle.std.specs.Prelude.{◌≡◌, ℕ, ◌+◌, ◌-◌, ◌<◌, ◌≤◌, Bool, nat_le, List, ◌++◌, All, AllPairs, length, drop, filter}
 use Rattle.std.specs.List.{range_with_len, prefix_len}
 use Rattle.tb_span.specs.Span.{Span, IsAbove}
 use Rattle.tb_span.specs.Seeds.{label_at}
@@ -22,6 +22,10 @@ AreAbove a stack v = All (λ i. IsAbove (label_at a i) v) stack
 -- how many items in a row, from the place on, start before the point
 abbrev pub run : List Item → ℕ → ℕ → ℕ
 run a from point = prefix_len (starts_before point) (drop from a)
+
+-- what is counted, and one step more for each place on the stack, which its popping will take
+abbrev pub spent : ℕ → List ℕ → ℕ
+spent steps stack = steps + length stack
 
 -- What pushing all that starts before the point comes to, for the place of the next ancestor. For each later
 -- point the stack has what it had, and what was passed, of what lasts till then.

@@ -4,7 +4,7 @@ ghost use Rattle.std.specs.Prelude.{◌≡◌, ◌+◌, ◌*◌, ◌^◌, ◌<�
 ghost use Rattle.tb_span.specs.Span.{Span};
 ghost use Rattle.tb_span.specs.Lists.{IsSortedByStart, Nest};
 ghost use Rattle.tb_span.specs.Seeds.{label_at};
-ghost use Rattle.tb_stackjoin.specs.Stacks.{IsStack, lasts, run, HasPushed};
+ghost use Rattle.tb_stackjoin.specs.Stacks.{IsStack, lasts, run, spent, HasPushed};
 
 use smallvec::SmallVec;
 use std::alloc::AllocError;
@@ -29,7 +29,7 @@ pub fn label_of(items: &[Item], place: u32) -> &Label
 pub fn pop_ended<L: Ledger>(a: &[Item], stack: &mut Stack, label: &Label, steps: &mut Steps<L>)
     requires stacked { IsStack a.now (length a.now) stack.old.items }
     ensures left { stack.new.items ≡ filter (lasts a.now label.now.start) stack.old.items }
-    ensures cost { steps.new + length stack.new.items ≤ steps.old + length stack.old.items + 1 }
+    ensures cost { spent steps.new stack.new.items ≤ spent steps.old stack.old.items + 1 }
 {
     'ended: while let Some(top) = stack.as_slice().last() {
         if !label_of(a, *top).ends_before(label, steps) {
@@ -54,7 +54,7 @@ pub fn push_started<L: Ledger>(
     requires within { first ≤ length a.now }
     requires stacked { IsStack a.now first stack.old.items }
     ensures pushed { IfOk result (HasPushed a.now first label.now.start stack.old.items stack.new.items) }
-    ensures cost { steps.new + length stack.new.items ≤ steps.old + length stack.old.items + 3 * run a.now first label.now.start + 1 }
+    ensures cost { spent steps.new stack.new.items ≤ spent steps.old stack.old.items + 3 * run a.now first label.now.start + 1 }
 {
     let mut next = first;
     'started: while (next as usize) < a.len() {

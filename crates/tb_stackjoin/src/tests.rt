@@ -1,9 +1,11 @@
 //! What no clause says: that joins succeed with ample memory, and small joins whose pairs were worked by hand.
 
-ghost use Rattle.std.specs.Prelude.{◌≡◌, ℕ, ◌<◌, ◌≤◌, ◌^◌, All, AllPairs, IsTrue, IfOk, length, map};
+ghost use Rattle.std.specs.Prelude.{◌≡◌, ◌+◌, [], ℕ, ◌<◌, ◌≤◌, ◌^◌, All, AllPairs, IsTrue, IfOk, length, map};
 ghost use Rattle.tb_span.specs.Span.{IsAbove, Nests};
 ghost use Rattle.tb_span.specs.Lists.{AreJoinable};
 ghost use Rattle.tb_span.specs.Seeds.{label_at, is_open_at, open_places, IsSeed};
+ghost use Rattle.tb_stackjoin.specs.Pairs.{pairs_by_descendant};
+ghost use Rattle.tb_stackjoin.specs.Turns.{most_steps};
 
 use super::*;
 use std::alloc::{AllocError, Global};
@@ -215,7 +217,24 @@ struct Outcome {
     pairs: Vec<Pair>,
 }
 
-// Joins the range from place `lo` to the end of `d`, and compares its pairs with those of the twin.
+// A whole join begins with no seed.
+fn whole_join<L: Ledger>(
+    alloc: Global,
+    a: &[Item],
+    d: &[Item],
+    axis: Axis,
+    steps: &mut Steps<L>,
+) -> Result<Vec<Pair>, AllocError>
+    requires joinable { AreJoinable a.now d.now }
+    requires few { (length a.now < 2 ^ 32) × (length d.now < 2 ^ 32) }
+    ensures pairs { IfOk result (λ pairs. pairs.items ≡ pairs_by_descendant axis a.now d.now 0 (length d.now)) }
+    ensures cost { steps.new ≤ steps.old + most_steps a.now d.now [] 0 0 (length d.now) }
+{
+    join_desc(alloc, a, d, &[], 0, 0, d.len() as u32, axis, steps)
+}
+
+// Joins the range from place `lo` to the end of `d`, and compares its pairs with those of the twin and with
+// the last ones of the whole join.
 fn joined<L: Ledger>(
     alloc: Global,
     blank: Blank,
@@ -242,6 +261,10 @@ fn joined<L: Ledger>(
     let plain = naive_join(alloc, &a, &d, lo, hi, axis, &mut steps)?;
     if pairs != plain {
         Err("the join and its twin differ")?;
+    }
+    let whole = whole_join(alloc, &a, &d, axis, &mut steps)?;
+    if !whole.ends_with(&pairs) {
+        Err("the range and the whole join differ")?;
     }
     Ok(Outcome {
         seed: places,

@@ -2,7 +2,7 @@ use Rattle.std.proofs.Common.{◌≡◌, ◌+◌, ◌*◌, ◌<◌, ◌≤◌, �
 use Rattle.tb_span.specs.Seeds.{label_at, places}
 use Rattle.tb_stackjoin.specs.Pairs.{pairs_by_descendant}
 use Rattle.tb_stackjoin.specs.Turns.{turns}
-use Rattle.tb_stackjoin.specs.Stacks.{IsStack, lasts, run}
+use Rattle.tb_stackjoin.specs.Stacks.{IsStack, lasts, run, spent}
 use Rattle.tb_stackjoin.proofs.by_descendant.join_desc.Given as goal
 
 -- For each descendant still to come the stack has all passed ancestors that last till it starts. The potential is
@@ -17,5 +17,5 @@ invariant-each g l = record {
   kept : (j : ℕ) → l.place ≤ j → j < l.hi → (label_at l.d j).start < (label_at l.d j).end
       → filter (lasts l.a (label_at l.d j).start) l.stack.items ≡ filter (lasts l.a (label_at l.d j).start) (places l.next);
   pairs : l.pairs.items ≡ pairs_by_descendant l.axis l.a l.d l.lo l.place;
-  cost : l.steps + length l.stack.items + (3 * l.from + 3 * l.lo) ≤ l.fn.steps + length l.seed + (3 * l.next + 3 * l.place);
+  cost : spent l.steps l.stack.items + (3 * l.from + 3 * l.lo) ≤ spent l.fn.steps l.seed + (3 * l.next + 3 * l.place);
 }
