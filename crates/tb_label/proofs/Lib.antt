@@ -3,6 +3,7 @@ pub mod EntryLaws
 pub mod LinkLaws
 pub mod ListingLaws
 pub mod NodeLaws
+pub mod PlacedLaws
 pub mod NestLaws
 pub mod AgreeLaws
 pub mod WorkedRows

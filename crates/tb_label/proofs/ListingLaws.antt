@@ -10,7 +10,8 @@ use Rattle.tb_label.specs.declared.entry.Entry.{Entry}
 use Rattle.tb_label.specs.Rows.{Row, rows, item_of}
 use Rattle.tb_label.specs.Entries.{entry_of, item_at}
 use Rattle.tb_label.specs.Lists.{one_if}
-use Rattle.tb_label.specs.Chosen.{nodes_of, chosen}
+use Rattle.tb_label.specs.Nodes.{nodes_of}
+use Rattle.tb_label.specs.Chosen.{chosen}
 use Rattle.tb_label.proofs.LinkLaws.{CountOn}
 
 pub length-nodes : (ks : Plains) → length (nodes_of ks) ≡ counts ks

@@ -1,6 +1,8 @@
 -- The lists of one document nest, and so can be joined.
-use Rattle.std.proofs.Common.{◌+◌, ◌*◌, ◌<◌, Bool, true, false, if◌then◌else◌, List, [], ◌∷◌, All, length, map, refl, ap, arith}
+use Rattle.std.proofs.Common.{◌+◌, ◌*◌, ◌<◌, ◌≤◌, Bool, true, false, if◌then◌else◌, List, [], ◌∷◌, All, length, map, refl, ap, arith}
 use Rattle.std.specs.List.{AllByRecursion, filter}
+use Rattle.std.proofs.lemmas.List.{length-map}
+use Rattle.std.proofs.lemmas.List.Sums.{length-filter, count_by-le-length}
 use Rattle.std.proofs.lemmas.List.Elements.{All-from_recursion}
 use Rattle.std.proofs.lemmas.List.Kept.{AllPairs-cons}
 use Rattle.tb_span.specs.Span.{Nests, same, before, after, above, below}
@@ -14,6 +16,7 @@ use Rattle.tb_label.specs.Rows.{Row, rows_of, item_of, listed, document_label, F
 use Rattle.tb_label.specs.Stores.{document_item_of}
 use Rattle.tb_tree.proofs.Alls.{all-both, all-weaker}
 use Rattle.tb_label.proofs.RowLaws.{IsUnder, AllFollow, all_under, all_follow}
+use Rattle.tb_label.proofs.LinkLaws.{length-rows}
 
 -- what holds of all elements holds of those that are kept
 kept-one : {X Y : Type 0} (Q : Y → Type 0) (f : X → Y) (x : X) (ys : List X) (keep : Bool) → Q (f x) → AllByRecursion Q (map f ys) → AllByRecursion Q (map f (if keep then x ∷ ys else ys))
@@ -83,6 +86,16 @@ nest_of s t root =
     (λ x h. All-from_recursion (λ y. Nests x.label y.label) (listed t root)
     (all-kept (λ y. Nests x.label y.label) (λ y. Nests x.label y.label) item_of (λ r. meets t r.node) (rows_of root) (λ y n. n) h))
     (all_nest (rows_of root) (follow_of root)))
+
+pub listed-few : (test : Test) (root : Plain) → length (listed test root) ≤ count root
+listed-few test root =
+    omega (
+      arith,
+      length-map (filter (λ r. meets test r.node) (rows_of root)) item_of,
+      length-filter (λ r. meets test r.node) (rows_of root),
+      count_by-le-length (λ r. meets test r.node) (rows_of root),
+      length-rows 2 1 0 [] 0 (one root),
+    )
 
 pub joinable : (s t : Test) (root : Plain) → AreJoinable (listed s root) (listed t root)
 joinable s t root = record {

@@ -7,7 +7,7 @@ use Rattle.tb_tree.specs.Numbers.{count}
 use Rattle.tb_label.specs.declared.entry.Entry.{Entry}
 use Rattle.tb_label.specs.Rows.{Row, leaf_row, rows_of}
 use Rattle.tb_label.specs.Entries.{entry_of, entries_of}
-use Rattle.tb_label.specs.Chosen.{nodes_of, node_at}
+use Rattle.tb_label.specs.Nodes.{nodes_of, node_at}
 use Rattle.tb_label.proofs.EntryLaws.{entries-rows}
 use Rattle.tb_label.proofs.ListingLaws.{nodes-rows}
 use Rattle.tb_label.proofs.LinkLaws.{IsKid, Linked, direct, deeper, all_linked, all_count_on, counted-at, length-rows}

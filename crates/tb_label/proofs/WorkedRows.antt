@@ -5,7 +5,7 @@ use Rattle.tb_span.specs.declared.item.Item.{Item}
 use Rattle.tb_tree.specs.Plain.{Plain, elem, attr, text, no_kids, kid, one}
 use Rattle.tb_tree.specs.declared.node_test.Test.TheVariants.{Name, AnyElement, AttrName, AnyText}
 use Rattle.tb_label.specs.Rows.{rows_of, document_label, listed}
-use Rattle.tb_label.specs.Chosen.{node_at}
+use Rattle.tb_label.specs.Nodes.{node_at}
 
 abbrev span : ℕ → ℕ → ℕ → Span
 span start end level = record { start = start; end = end; level = level }
@@ -29,6 +29,9 @@ mixed = elem (114 ∷ []) (kid (attr (107 ∷ []) (49 ∷ [])) (kid (text (120 �
 
 mixed-labels : map (λ r. r.label) (rows_of mixed) ≡ span 2 11 1 ∷ span 3 4 2 ∷ span 5 6 2 ∷ span 7 10 2 ∷ span 8 9 3 ∷ []
 mixed-labels = refl
+
+mixed-places : map (λ r. r.place) (rows_of mixed) ≡ (0 ∷ []) ∷ (0 ∷ 0 ∷ []) ∷ (0 ∷ 1 ∷ []) ∷ (0 ∷ 2 ∷ []) ∷ (0 ∷ 2 ∷ 0 ∷ []) ∷ []
+mixed-places = refl
 
 mixed-elements : listed AnyElement mixed ≡ item 2 11 1 1 ∷ item 7 10 2 4 ∷ []
 mixed-elements = refl

@@ -1,10 +1,10 @@
 -- The nodes of a document with their labels: the rows that a store keeps.
 use Rattle.std.specs.Prelude.{◌≡◌, ◌↔◌, ℕ, ◌+◌, ◌*◌, ◌<◌, List, [], ◌∷◌, ◌++◌, map, filter, length}
-use Rattle.tb_span.specs.Span.{Span, Encloses, IsAbove, IsBefore}
+use Rattle.tb_span.specs.Span.{Span, Encloses, IsParent, IsAbove, IsBefore}
 use Rattle.tb_span.specs.declared.item.Item.{Item}
 use Rattle.tb_tree.specs.Plain.{Plain, elem, attr, text, Plains, no_kids, kid}
-use Rattle.tb_tree.specs.Numbers.{counts, count}
-use Rattle.tb_tree.specs.Places.{IsAncestor}
+use Rattle.tb_tree.specs.Numbers.{counts, count, Numbered}
+use Rattle.tb_tree.specs.Places.{IsAncestor, Placed}
 use Rattle.tb_tree.specs.Meets.{meets}
 use Rattle.tb_tree.specs.declared.node_test.Test.{Test}
 
@@ -61,6 +61,13 @@ rows_of root = rows 2 1 0 [] 0 (kid root no_kids)
 abbrev pub document_label : Plain → Span
 document_label root = record { start = 1; end = 2 * count root + 2; level = 0 }
 
+-- the row without its label: a node with its place, and a node with its number
+abbrev pub placed_of : Row → Placed
+placed_of r = record { place = r.place; node = r.node }
+
+abbrev pub numbered_of : Row → Numbered
+numbered_of r = record { number = r.number; node = r.node }
+
 abbrev pub item_of : Row → Item
 item_of r = record { label = r.label; node = r.number }
 
@@ -73,10 +80,16 @@ abbrev pub IsLeftOf : List ℕ → List ℕ → Type 0
 IsLeftOf u v =
     (front : List ℕ) × (j : ℕ) × (k : ℕ) × (a : List ℕ) × (b : List ℕ) × (u ≡ front ++ j ∷ a) × (v ≡ front ++ k ∷ b) × (j < k)
 
--- Labels tell how two places stand, and nothing else does: one label encloses another exactly where the places
--- are ancestor and descendant, and one ends before another starts exactly where its place stands left.
+-- A place is the parent of another where it is its front with all kid numbers but the last.
+abbrev pub IsParentOf : List ℕ → List ℕ → Type 0
+IsParentOf u v = (k : ℕ) × (v ≡ u ++ k ∷ [])
+
+-- Labels tell how two places stand: one label encloses another exactly where the places are ancestor and
+-- descendant, is its parent's exactly where they are parent and kid, and ends before it starts exactly where its
+-- place stands left.
 pub record Agree (x y : Row) : Type 0 where
   pub encloses : Encloses x.label y.label ↔ IsAncestor x.place y.place
+  pub parent : IsParent x.label y.label ↔ IsParentOf x.place y.place
   pub before : IsBefore x.label y.label ↔ IsLeftOf x.place y.place
 
 -- Labels and places in document order: a row that follows another is below it and inside its label, or right of it and

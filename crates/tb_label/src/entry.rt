@@ -43,8 +43,8 @@ pub fn entry_at(start: u32, end: u32, level: u16, parent: u32, kid: u32) -> Entr
     }
 }
 
-/// Adds the entries of a node and of all nodes below it, the node's number being how many entries there
-/// are. Gives where the counter then stands.
+/// Adds the entries of a node and of all nodes below it, the node's number being how many entries
+/// there are. Gives where the counter then stands.
 #[cycle(entering)]
 fn enter(
     node: &Node,
@@ -58,7 +58,8 @@ fn enter(
     requires numbers { vec_len out.old + count (plain_of node.now) < 2 ^ 32 }
     requires levels { level + levels (one (plain_of node.now)) < 2 ^ 16 }
     ensures clock { IfOk result (λ after. after ≡ clock + 2 * count (plain_of node.now)) }
-    ensures entered { OnOk result (out.new.items ≡ out.old.items ++ entries clock (vec_len out.old) parent level kid (one (plain_of node.now))) }
+    ensures entered { OnOk result (out.new.items
+        ≡ out.old.items ++ entries clock (vec_len out.old) parent level kid (one (plain_of node.now))) }
 {
     let number = out.len();
     out.push(entry_at(clock, clock + 1, level, parent, kid))?;
@@ -83,7 +84,8 @@ pub fn enter_all(
     requires numbers { vec_len out.old + counts (plains_of kids.now) < 2 ^ 32 }
     requires levels { level + levels (plains_of kids.now) < 2 ^ 16 }
     ensures clock { IfOk result (λ after. after ≡ clock + 2 * counts (plains_of kids.now)) }
-    ensures entered { OnOk result (out.new.items ≡ out.old.items ++ entries clock (vec_len out.old) parent level 0 (plains_of kids.now)) }
+    ensures entered { OnOk result (out.new.items
+        ≡ out.old.items ++ entries clock (vec_len out.old) parent level 0 (plains_of kids.now)) }
 {
     let mut now = clock;
     let mut kid = 0;

@@ -30,7 +30,8 @@ impl Names {
 
     /// Adds an item of the name. The name is copied where it is new.
     pub fn push(&mut self, alloc: Global, name: &Bytes, item: &Item) -> Result<(), AllocError>
-        ensures { OnOk result ((q : List ℕ) → in_names self.new q ≡ in_names self.old q ++ one_if (bytes_eq q name.now) item.now) }
+        ensures { OnOk result ((q : List ℕ) →
+            in_names self.new q ≡ in_names self.old q ++ one_if (bytes_eq q name.now) item.now) }
     {
         if let Some(list) = self.lists.get_mut(name) {
             list.push(*item)?;
@@ -78,7 +79,8 @@ impl Lists {
 
     /// Adds a node's item to the lists of the tests that it meets.
     pub fn add(&mut self, alloc: Global, node: &Node, item: &Item) -> Result<(), AllocError>
-        ensures { OnOk result ((t : Test) → in_lists self.new t ≡ in_lists self.old t ++ one_if (meets t (plain_of node.now)) item.now) }
+        ensures { OnOk result ((t : Test) →
+            in_lists self.new t ≡ in_lists self.old t ++ one_if (meets t (plain_of node.now)) item.now) }
     {
         match node {
             Node::Elem { name, .. } => {

@@ -1,7 +1,7 @@
 //! A document with the labels of its nodes and the list of each test.
 
 ghost use Rattle.std.specs.Prelude.{◌≡◌, ◌↔◌, ◌⊎◌, ◌∷◌, [], ◌^◌, ◌<◌, ◌≤◌, length, slice_index_or, IsTrue, IfOk, IsNone, IfSome};
-ghost use Rattle.tb_label.specs.Chosen.{node_at};
+ghost use Rattle.tb_label.specs.Nodes.{node_at};
 ghost use Rattle.tb_span.specs.Lists.{AreJoinable};
 ghost use Rattle.tb_tree.specs.Plain.{Plain, one, is_element, kids_of, kids_listed};
 ghost use Rattle.tb_tree.specs.View.{plain_of};
@@ -48,8 +48,8 @@ impl Model for Store {
 }
 
 impl Store {
-    /// Labels the nodes of a document and lists them by test: fewer than 2^30 nodes, and at most 512 elements
-    /// inside each other.
+    /// Labels the nodes of a document and lists them by test: fewer than 2^30 nodes, and at most 512
+    /// elements inside each other.
     pub fn build(alloc: Global, tree: Tree) -> Result<Store, AllocError>
         requires nodes { count (plain_of tree) < 2 ^ 30 }
         requires levels { levels (one (plain_of tree)) ≤ 512 }
@@ -68,7 +68,8 @@ impl Store {
 
     /// The document as it was given.
     pub fn tree(&self) -> &Tree
-        ensures { result.now ≡ self.now }
+        ensures same { result.now ≡ self.now }
+        ensures few { count (plain_of self.now) < 2 ^ 30 }
     {
         &self.tree
     }
@@ -84,13 +85,14 @@ impl Store {
     /// The nodes that meet the test, by start. A name that doesn't occur gives none.
     pub fn list(&self, test: &Test) -> &[Item]
         ensures items { result.now ≡ listed test.now (plain_of self.now) }
+        ensures few { length result.now < 2 ^ 30 }
         ensures joinable { (other : Test) → AreJoinable result.now (listed other (plain_of self.now)) }
     {
         self.lists.of(test)
     }
 
-    /// The node of that number, from 1 in document order; none for the document node and past the last node.
-    /// It takes as many steps as the node is deep.
+    /// The node of that number, from 1 in document order; none for the document node and past the last
+    /// node. It takes as many steps as the node is deep.
     pub fn node(&self, id: NodeId) -> Option<&Node>
         ensures none { IsNone result ↔ (id ≡ 0) ⊎ (count (plain_of self.now) < id) }
         ensures node { IfSome result (λ node. plain_of node.now ≡ node_at (plain_of self.now) id) }
@@ -124,7 +126,8 @@ fn find<'a>(root: &'a Node, entries: &[Entry], number: u32) -> &'a Node
 fn kid_of(node: &Node, kid: u32) -> &Node
     requires element { IsTrue (is_element (plain_of node.now)) }
     requires within { kid < length (kids_listed (kids_of (plain_of node.now))) }
-    ensures { (d : Plain) → plain_of result.now ≡ slice_index_or (kids_listed (kids_of (plain_of node.now))) kid d }
+    ensures { (d : Plain) → plain_of result.now
+        ≡ slice_index_or (kids_listed (kids_of (plain_of node.now))) kid d }
 {
     match node {
         Node::Elem { kids, .. } => &kids.as_slice()[kid as usize],
@@ -147,7 +150,8 @@ fn entries_of(alloc: Global, root: &Node) -> Result<Vec<Entry>, AllocError>
 fn lists_of(alloc: Global, root: &Node, entries: &[Entry]) -> Result<Lists, AllocError>
     requires nodes { count (plain_of root.now) < 2 ^ 30 }
     requires entered { entries.now ≡ entries_of (plain_of root.now) }
-    ensures { IfOk result (λ lists. (test : Test) → in_lists lists test ≡ listed test (plain_of root.now)) }
+    ensures { IfOk result (λ lists.
+        (test : Test) → in_lists lists test ≡ listed test (plain_of root.now)) }
 {
     let mut lists = Lists::new(alloc);
     list_all(alloc, slice::from_ref(root), 1, entries, &mut lists)?;

@@ -1,5 +1,5 @@
 -- Lists of items, as structural joins take them.
-use Rattle.std.specs.Prelude.{ℕ, ◌+◌, ◌<◌, Bool, ◌&&◌, nat_lt, nat_eq, List, All, AllPairs, slice_index_or}
+use Rattle.std.specs.Prelude.{◌+◌, ◌<◌, Bool, ◌&&◌, nat_lt, nat_eq, List, All, AllPairs}
 use Rattle.tb_span.specs.Span.{Span, Nests}
 use Rattle.tb_span.specs.declared.item.Axis.{Axis}
 use Rattle.tb_span.specs.declared.item.Axis.TheVariants.{Child, Descendant}

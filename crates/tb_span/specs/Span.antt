@@ -1,5 +1,5 @@
 -- Intervals of nodes in one document, and which node stands above which (Al-Khalifa and others, ICDE 2002).
-use Rattle.std.specs.Prelude.{◌≡◌, ℕ, ◌+◌, ◌<◌, Bool, ◌&&◌, nat_lt, nat_eq}
+use Rattle.std.specs.Prelude.{◌≡◌, ℕ, ◌+◌, ◌<◌}
 
 -- what a contract sees of a label
 pub record Span : Type 0 where

@@ -8,7 +8,8 @@ use Rattle.tb_tree.specs.declared.node_test.Test.{Test}
 use Rattle.tb_tree.proofs.Numbering.{counts-kid}
 use Rattle.tb_tree.proofs.Views.{plains_of-drop}
 use Rattle.tb_label.specs.declared.entry.Entry.{Entry}
-use Rattle.tb_label.specs.Chosen.{nodes_of, chosen}
+use Rattle.tb_label.specs.Nodes.{nodes_of}
+use Rattle.tb_label.specs.Chosen.{chosen}
 use Rattle.tb_label.proofs.ListingLaws.{chosen-kid, drop-sum}
 use Rattle.tb_label.proofs.listing.+listing.Goals as goal
 

@@ -3,7 +3,8 @@ use Rattle.tb_tree.specs.View.{plains_of}
 use Rattle.tb_tree.specs.Numbers.{counts}
 use Rattle.tb_tree.specs.declared.node_test.Test.{Test}
 use Rattle.tb_label.specs.Lists.{in_lists}
-use Rattle.tb_label.specs.Chosen.{nodes_of, chosen}
+use Rattle.tb_label.specs.Nodes.{nodes_of}
+use Rattle.tb_label.specs.Chosen.{chosen}
 use Rattle.tb_label.proofs.listing.+listing.Given as goal
 
 -- what is listed and counted so far, with what is left, makes the whole

@@ -7,7 +7,8 @@ use Rattle.tb_tree.specs.declared.node_test.Test.{Test}
 use Rattle.tb_label.specs.declared.entry.Entry.{Entry}
 use Rattle.tb_label.specs.Rows.{rows_of, listed}
 use Rattle.tb_label.specs.Entries.{entries_of}
-use Rattle.tb_label.specs.Chosen.{nodes_of, chosen}
+use Rattle.tb_label.specs.Nodes.{nodes_of}
+use Rattle.tb_label.specs.Chosen.{chosen}
 use Rattle.tb_label.proofs.EntryLaws.{entries-rows, length-document}
 use Rattle.tb_label.proofs.LinkLaws.{all_count_on}
 use Rattle.tb_label.proofs.ListingLaws.{nodes-rows, chosen-rows}
@@ -19,16 +20,13 @@ chosen-document t root es is =
     ∙ sym (ap₂ (λ ns xs. chosen t 1 ns xs) (nodes-rows 2 1 0 [] 0 (one root)) (entries-rows 2 1 0 [] 0 (one root)))
     ∙ chosen-rows t 1 (rows_of root) (all_count_on 2 1 0 [] 0 (one root))
 
--- src/store.rt:98:5
 pub list_all-requires-clause-entered : goal.list_all-requires-clause-entered
 list_all-requires-clause-entered c =
     omega (arith, ap (λ ns. counts (plains_of ns)) c.from_ref.ensures.value, length-document (plain_of c.args.root.now) c.args.entries.now c.requires.entered)
 
--- src/store.rt:98:5
 pub list_all-requires-clause-numbers : goal.list_all-requires-clause-numbers
 list_all-requires-clause-numbers c = omega (arith, length-document (plain_of c.args.root.now) c.args.entries.now c.requires.entered, c.requires.nodes)
 
--- src/store.rt:92:1
 pub returns : goal.returns
 returns c = λ t.
     c.in_ok-list_all.ensures.listed t ∙ ap (λ x. x ++ chosen t 1 (nodes_of (plains_of c.from_ref.result.now)) (drop 1 c.args.entries.now)) (c.new-lists.ensures t)
