@@ -61,7 +61,7 @@ fn time_join(rt: &HostRuntime, store: &Store, name: &str, axis: Axis) -> io::Res
     eprintln!(rt; "{name} {}", took.as_nanos())
 }
 
-/// The pairs of the nodes that meet two tests; none where the lists are too long to be joined.
+/// The pairs of the nodes that meet two tests.
 fn joined<L: Ledger>(
     alloc: Global,
     blank: Blank,
@@ -76,14 +76,8 @@ fn joined<L: Ledger>(
 {
     let a = store.list(above);
     let d = store.list(below);
-    if a.len() > u32::MAX as usize {
-        return Ok(Vec::new(alloc));
-    }
-    let Ok(hi) = u32::try_from(d.len()) else {
-        return Ok(Vec::new(alloc));
-    };
     let mut steps = Steps::<L>::new(blank);
-    join_desc(alloc, a, d, &[], 0, 0, hi, axis, &mut steps)
+    join_desc(alloc, a, d, &[], 0, 0, d.len() as u32, axis, &mut steps)
 }
 
 /// A number that differs where the pairs do, most likely.

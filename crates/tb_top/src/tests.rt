@@ -8,6 +8,7 @@ use std::test::Fail;
 use std::thread::Threads;
 use tb_edge::{MemSink, MemSource, OpenGate};
 
+mod labels;
 mod stores;
 
 const NESTED: &[u8] =

@@ -126,12 +126,10 @@ fn show_name(
     name: &[u8],
     text: &mut String,
 ) -> Result<(), AllocError> {
-    show(alloc, store.list(&Test::Name(bytes(alloc, name)?)), text)?;
-    show(
-        alloc,
-        store.list(&Test::AttrName(bytes(alloc, name)?)),
-        text,
-    )
+    let element = Test::Name(bytes(alloc, name)?);
+    let attribute = Test::AttrName(bytes(alloc, name)?);
+    show(alloc, store.list(&element.copy(alloc)?), text)?;
+    show(alloc, store.list(&attribute.copy(alloc)?), text)
 }
 
 // The document node, all elements, attributes and texts, and those of each name that is asked for.
