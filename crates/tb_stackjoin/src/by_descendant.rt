@@ -15,8 +15,8 @@ use tb_span::{Axis, Item, Pair, Steps};
 /// The pairs of the descendants from place `lo` up to `hi` of `d` with their ancestors in `a`, by descendant
 /// and then by ancestor. The items of `a` before `from` are looked at no more: the places of those that are
 /// still open at `d[lo]` are the seed. A whole join has `from` 0, no seed, and all of `d`.
-/// It compares labels at most six times for each of them and each ancestor that starts before the last
-/// descendant, and four times for each descendant.
+/// At most six comparisons for each place of the seed and for each later ancestor that starts before the last
+/// descendant, and four for each descendant.
 pub fn join_desc<L: Ledger>(
     alloc: Global,
     a: &[Item],
