@@ -2,8 +2,8 @@ use Rattle.std.proofs.Common.{All, subst, arith}
 use Rattle.std.proofs.lemmas.List.{take_all}
 use Rattle.std.proofs.lemmas.List.Elements.{All-more}
 use Rattle.tb_span.specs.Span.{Nests}
-use Rattle.tb_stackjoin.specs.declared.tests.Known.{Known}
-use Rattle.tb_stackjoin.proofs.tests.all_nest.Goals as goal
+use Rattle.tb_stackjoin.specs.declared.tests.checked.Known.{Known}
+use Rattle.tb_stackjoin.proofs.tests.checked.all_nest.Goals as goal
 
 pub all-preserved : goal.all-preserved
 all-preserved c =

@@ -1,8 +1,8 @@
 use Rattle.std.proofs.Common.{◌≡◌, ℕ, ◌+◌, ◌-◌, ◌<◌, All, List, length, get_or, drop, ap, ◌∙◌, subst, arith, get_or-drop, length-drop}
 use Rattle.std.proofs.lemmas.List.{take_rest, get_or_default}
 use Rattle.tb_stackjoin.proofs.PlaceLaws.{below-more}
-use Rattle.tb_stackjoin.specs.declared.tests.Known.{Known}
-use Rattle.tb_stackjoin.proofs.tests.rises.Goals as goal
+use Rattle.tb_stackjoin.specs.declared.tests.checked.Known.{Known}
+use Rattle.tb_stackjoin.proofs.tests.checked.rises.Goals as goal
 
 -- an element that stands in the relation to all behind it
 one-more : (R : Known → Known → Type 0) (us : List Known) (n : ℕ) (u : Known) → n < length us → u ≡ get_or us n u → All (R u) (drop (n + 1) us)

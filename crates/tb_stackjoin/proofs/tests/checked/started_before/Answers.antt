@@ -2,8 +2,8 @@ use Rattle.std.proofs.Common.{◌<◌, map, ap, arith}
 use Rattle.tb_span.specs.Span.{Span}
 use Rattle.tb_span.specs.Seeds.{label_at}
 use Rattle.tb_stackjoin.proofs.PlaceLaws.{below-more, label_at-map}
-use Rattle.tb_stackjoin.specs.declared.tests.Known.{Known}
-use Rattle.tb_stackjoin.proofs.tests.started_before.Goals as goal
+use Rattle.tb_stackjoin.specs.declared.tests.checked.Known.{Known}
+use Rattle.tb_stackjoin.proofs.tests.checked.started_before.Goals as goal
 
 pub all-preserved : goal.all-preserved
 all-preserved c =

@@ -1,8 +1,8 @@
 use Rattle.std.proofs.Common.{◌≡◌, ◌∷◌, [], ◌++◌, ◌∙◌, true, false, sym, ap, map, arith}
 use Rattle.tb_span.specs.Seeds.{label_at, is_open_at}
 use Rattle.tb_stackjoin.proofs.PlaceLaws.{filter_places-yes, filter_places-no, label_at-map}
-use Rattle.tb_stackjoin.specs.declared.tests.Known.{Known}
-use Rattle.tb_stackjoin.proofs.tests.open_at.Goals as goal
+use Rattle.tb_stackjoin.specs.declared.tests.checked.Known.{Known}
+use Rattle.tb_stackjoin.proofs.tests.checked.open_at.Goals as goal
 
 pub all-preserved-then-not-is_open : goal.all-preserved-then-not-is_open
 all-preserved-then-not-is_open c =

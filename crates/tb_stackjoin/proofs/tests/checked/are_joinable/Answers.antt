@@ -5,8 +5,8 @@ use Rattle.tb_span.specs.Span.{Nests}
 use Rattle.tb_span.specs.Lists.{Nest}
 use Rattle.tb_span.specs.declared.item.Item.{Item}
 use Rattle.tb_stackjoin.proofs.Ranges.{AllPairs-nil, AllPairs-head, AllPairs-tail}
-use Rattle.tb_stackjoin.specs.declared.tests.Known.{Known}
-use Rattle.tb_stackjoin.proofs.tests.are_joinable.Goals as goal
+use Rattle.tb_stackjoin.specs.declared.tests.checked.Known.{Known}
+use Rattle.tb_stackjoin.proofs.tests.checked.are_joinable.Goals as goal
 
 AllPairs-map : {X Y : Type 0} (R : Y → Y → Type 0) (f : X → Y) (xs : List X) → AllPairs (λ x y. R (f x) (f y)) xs → AllPairs R (map f xs)
 AllPairs-map R f [] h = AllPairs-nil R
