@@ -1,6 +1,6 @@
 //! One node's label and its comparisons.
 
-ghost use Rattle.std.specs.Prelude.{◌≡◌, ◌+◌, ◌<◌, ◌↔◌, IsTrue, IsSome, IfSome};
+ghost use Rattle.std.specs.Prelude.{◌≡◌, ◌+◌, ◌^◌, ◌<◌, ◌↔◌, IsTrue, IsSome, IfSome};
 ghost use Rattle.tb_span.specs.Span.{HasNumbers};
 
 use crate::Steps;
@@ -18,14 +18,15 @@ pub struct Label {
 }
 
 impl Model for Label {
-    ghost use Rattle.std.specs.Prelude.{◌<◌};
+    ghost use Rattle.std.specs.Prelude.{◌<◌, ◌^◌};
     ghost use Rattle.tb_span.specs.Span.{Span};
 
     ghost Value = { Span };
 
     ghost view = { λ l. record { start = l.start; end = l.end; level = l.level } };
 
-    ghost invariant = { λ l. l.start < l.end };
+    // That a number is short is known of each u32; it stands here so that callers can learn it.
+    ghost invariant = { λ l. (l.start < l.end) × (l.end < 2 ^ 32) };
 
     ghost inverse = { λ s. record { start = s.start; end = s.end; level = s.level } };
 }
@@ -70,9 +71,10 @@ impl Label {
         u32::from(other.level) + 1 == u32::from(self.level)
     }
 
-    /// Every label ends behind its start. Nothing is compared.
+    /// Every label ends behind its start, and its numbers are short. Nothing is compared.
     pub fn interval(&self)
-        ensures { self.now.start < self.now.end }
+        ensures behind { self.now.start < self.now.end }
+        ensures short { self.now.end < 2 ^ 32 }
     {
         let _ = &self.start;
     }

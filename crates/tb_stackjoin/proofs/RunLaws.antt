@@ -1,8 +1,8 @@
 -- Runs: how many ancestors in a row start before a point.
-use Rattle.std.proofs.Common.{◌≡◌, ℕ, ◌+◌, ◌-◌, ◌<◌, ◌≤◌, ◌⊎◌, inl, inr, true, false, nat_lt, List, length, get_or, drop, count_by, sym, ap, ◌∙◌, subst, arith, length-drop, drop-drop, get_or-drop}
+use Rattle.std.proofs.Common.{◌≡◌, ℕ, zero, suc, ◌+◌, ◌-◌, ◌^◌, ◌<◌, ◌≤◌, ◌⊎◌, inl, inr, true, false, nat_lt, List, length, get_or, drop, count_by, sym, ap, ◌∙◌, subst, arith, length-drop, drop-drop, get_or-drop}
 use Rattle.std.specs.List.{prefix_len}
 use Rattle.std.proofs.lemmas.Bool.{cases_eq, cond-true, ltb-true, ltb-false, lt-ltb, le-ltb}
-use Rattle.std.proofs.lemmas.List.{drop_more}
+use Rattle.std.proofs.lemmas.List.{drop_more, get_or_default}
 use Rattle.std.proofs.lemmas.List.Sums.{prefix_len-le-length, prefix_len-drop_all, prefix_len-drop_no, prefix_len_passes, prefix_len_stops}
 use Rattle.tb_span.specs.Lists.{IsSortedByStart}
 use Rattle.tb_span.specs.Seeds.{no_item, label_at}
@@ -10,6 +10,20 @@ use Rattle.tb_span.specs.declared.item.Item.{Item}
 use Rattle.tb_stackjoin.specs.Turns.{starts_before, turns}
 use Rattle.tb_stackjoin.specs.Stacks.{run}
 use Rattle.tb_stackjoin.proofs.Prefixes.{prefix_skip, prefix_le_count}
+
+-- Starts rise, so the item at a place starts at the place or later.
+pub place-start : (a : List Item) (i : ℕ) → IsSortedByStart a → i < length a → i ≤ (label_at a i).start
+place-start a zero sorted within = omega arith
+place-start a (suc i) sorted within = omega (arith, place-start a i sorted (omega (arith, within)), sorted i (suc i) no_item (omega arith) within)
+
+-- A label's numbers are short, so a list in order of starts is.
+pub few-items : (xs : List Item) (last : Item) → IsSortedByStart xs → 0 < length xs → last ≡ get_or xs (length xs - 1) last
+    → last.label.start < last.label.end → last.label.end < 2 ^ 32 → length xs < 2 ^ 32
+few-items xs last sorted some is behind short =
+    let at = length xs - 1 in
+    let within : at < length xs = omega (arith, some) in
+    let same : last ≡ get_or xs at no_item = is ∙ get_or_default xs at last no_item within in
+    omega (arith, some, place-start xs at sorted within, ap (λ x. x.label.start) same, behind, short)
 
 pub run_more : (a : List Item) (n point : ℕ) → n < length a → (label_at a n).start < point → run a n point ≡ 1 + run a (n + 1) point
 run_more a n point within starts =

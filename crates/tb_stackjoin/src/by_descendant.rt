@@ -29,7 +29,6 @@ pub fn join_desc<L: Ledger>(
     steps: &mut Steps<L>,
 ) -> Result<Vec<Pair>, AllocError>
     requires joinable { AreJoinable a.now d.now }
-    requires few { length a.now < 2 ^ 32 }
     requires range { (lo ≤ hi) × (hi ≤ length d.now) × (from ≤ length a.now) }
     requires seeded { IsSeed a.now d.now seed.now from lo hi }
     ensures pairs { IfOk result (λ pairs. pairs.items ≡ pairs_by_descendant axis a.now d.now lo hi) }

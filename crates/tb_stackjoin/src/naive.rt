@@ -2,7 +2,7 @@
 
 ghost use Rattle.std.specs.Prelude.{◌≡◌, ◌^◌, ◌<◌, ◌≤◌, ◌++◌, All, length, IfOk, OnOk};
 ghost use Rattle.tb_span.specs.Span.{Nests};
-ghost use Rattle.tb_span.specs.Lists.{AreJoinable, is_related};
+ghost use Rattle.tb_span.specs.Lists.{IsSortedByStart, AreJoinable, is_related};
 ghost use Rattle.tb_stackjoin.specs.Pairs.{above, paired, pairs_by_descendant};
 
 use crate::stack::label_of;
@@ -29,6 +29,20 @@ fn has_on_axis<L: Ledger>(u: &Label, v: &Label, axis: Axis, steps: &mut Steps<L>
     }
 }
 
+/// How many items these are: no more than there are starts.
+fn count_of(items: &[Item]) -> u32
+    requires sorted { IsSortedByStart items.now }
+    ensures { result ≡ length items.now }
+{
+    match items.last() {
+        Some(last) => {
+            last.label.interval();
+            items.len() as u32
+        }
+        None => 0,
+    }
+}
+
 /// Adds the pairs of one descendant with all ancestors that have it on the axis.
 fn pair_with_all<L: Ledger>(
     a: &[Item],
@@ -38,11 +52,11 @@ fn pair_with_all<L: Ledger>(
     pairs: &mut Vec<Pair>,
     steps: &mut Steps<L>,
 ) -> Result<(), AllocError>
+    requires sorted { IsSortedByStart a.now }
     requires nest { All (λ x. Nests x.label label.now) a.now }
-    requires few { length a.now < 2 ^ 32 }
     ensures { OnOk result (pairs.new.items ≡ pairs.old.items ++ paired (above axis a.now label.now) place) }
 {
-    'ancestors: for ancestor in 0..a.len() as u32 {
+    'ancestors: for ancestor in 0..count_of(a) {
         if !has_on_axis(label_of(a, ancestor), label, axis, steps) {
             continue;
         }
@@ -65,7 +79,6 @@ pub fn naive_join<L: Ledger>(
     steps: &mut Steps<L>,
 ) -> Result<Vec<Pair>, AllocError>
     requires joinable { AreJoinable a.now d.now }
-    requires few { length a.now < 2 ^ 32 }
     requires range { (lo ≤ hi) × (hi ≤ length d.now) }
     ensures { IfOk result (λ pairs. pairs.items ≡ pairs_by_descendant axis a.now d.now lo hi) }
 {

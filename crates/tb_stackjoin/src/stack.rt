@@ -14,11 +14,12 @@ use tb_span::{Item, Label, Steps};
 /// Up to 16 ancestors inside each other take no memory.
 pub type Stack = SmallVec<u32, 16>;
 
-/// The label of the item at a place, and that it ends behind its start.
+/// The label of the item at a place, that it ends behind its start, and that its numbers are short.
 pub fn label_of(items: &[Item], place: u32) -> &Label
     requires { place < length items.now }
     ensures is { result.now ≡ label_at items.now place }
     ensures interval { result.now.start < result.now.end }
+    ensures short { result.now.end < 2 ^ 32 }
 {
     let label = &items[place as usize].label;
     label.interval();
@@ -50,7 +51,6 @@ pub fn push_started<L: Ledger>(
 ) -> Result<u32, AllocError>
     requires sorted { IsSortedByStart a.now }
     requires nest { Nest a.now a.now }
-    requires few { length a.now < 2 ^ 32 }
     requires within { first ≤ length a.now }
     requires stacked { IsStack a.now first stack.old.items }
     ensures pushed { IfOk result (HasPushed a.now first label.now.start stack.old.items stack.new.items) }

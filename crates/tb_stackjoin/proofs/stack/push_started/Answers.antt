@@ -3,9 +3,19 @@ use Rattle.tb_span.specs.Span.{Span}
 use Rattle.tb_span.specs.Seeds.{label_at}
 use Rattle.tb_stackjoin.proofs.Told.{less-told}
 use Rattle.tb_stackjoin.proofs.StackLaws.{IsStack-pushed}
-use Rattle.tb_stackjoin.proofs.RunLaws.{run_more}
+use Rattle.tb_stackjoin.proofs.RunLaws.{place-start, run_more}
 use Rattle.tb_stackjoin.proofs.KeptLaws.{kept_push}
 use Rattle.tb_stackjoin.proofs.stack.push_started.Goals as goal
+
+pub overflow_add-next : goal.overflow_add-next
+overflow_add-next g c =
+    omega (
+      arith,
+      place-start c.args.a.now c.started.next c.requires.sorted (omega arith),
+      ap (λ (v : Span). v.start) c.label_of-ancestor.ensures.is,
+      c.label_of-ancestor.ensures.interval,
+      c.label_of-ancestor.ensures.short,
+    )
 
 pub started-preserved : goal.started-preserved
 started-preserved g c =
