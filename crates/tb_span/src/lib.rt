@@ -1,6 +1,6 @@
 //! Interval labels: where a node starts and ends in its document, and how deep it stands.
 //!
-//! Every list that a structural join works on is one of these items. What is proved is what each comparison
+//! Structural joins work on lists of these items, and call the comparisons. What is proved is what each comparison
 //! says of two labels (`tells`) and that it counts one step (`counts`), so that a bound on steps bounds the
 //! comparisons. The rule of ancestors is that of Al-Khalifa and others, ICDE 2002.
 #![tactic(auto)]
