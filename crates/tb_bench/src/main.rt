@@ -82,7 +82,7 @@ fn joined<L: Ledger>(
 
 /// A number that differs where the pairs do, most likely.
 fn sum(pairs: &[Pair]) -> u64 {
-    let mut sum = 0u64;
+    let mut sum = 1u64;
     'pairs: for pair in pairs {
         sum = sum.wrapping_mul(31).wrapping_add(u64::from(pair.a));
         sum = sum.wrapping_mul(31).wrapping_add(u64::from(pair.d));
@@ -92,7 +92,8 @@ fn sum(pairs: &[Pair]) -> u64 {
 
 /// The document that the source gives to its end, or none.
 fn document<S: Source>(alloc: Global, source: &mut S) -> Result<Option<Tree>, AllocError>
-    ensures { IfOk result (λ read. IfSome read (λ tree. (count (plain_of tree) < 2 ^ 30) × (levels (one (plain_of tree)) ≤ 512))) }
+    ensures { IfOk result (λ read. IfSome read (λ tree.
+        (count (plain_of tree) < 2 ^ 30) × (levels (one (plain_of tree)) ≤ 512))) }
 {
     let Ok(lines) = read_up_to(alloc, source, MOST_INPUT) else {
         return Ok(None);

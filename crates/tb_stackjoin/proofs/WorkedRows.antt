@@ -4,7 +4,7 @@ use Rattle.tb_span.specs.Seeds.{open_places}
 use Rattle.tb_span.specs.declared.item.Axis.TheVariants.{Child, Descendant}
 use Rattle.tb_span.specs.declared.item.Item.{Item}
 use Rattle.tb_stackjoin.specs.Pairs.{pair, pairs_by_descendant}
-use Rattle.tb_stackjoin.specs.Turns.{most_steps}
+use Rattle.tb_stackjoin.specs.Turns.{turns, most_steps}
 
 abbrev item : ℕ → ℕ → ℕ → ℕ → Item
 item start end level number = record { label = record { start = start; end = end; level = level }; node = number }
@@ -30,6 +30,16 @@ no_descendants-steps : most_steps nested [] [] 0 0 0 ≡ 0
 no_descendants-steps = refl
 
 -- the range of the third element alone: two are open where it starts
+-- the second one alone, with the first as its seed
+second-descendants : pairs_by_descendant Descendant nested nested 1 2 ≡ pair 0 1 ∷ []
+second-descendants = refl
+
+second-seed : open_places nested 1 3 ≡ 0 ∷ []
+second-seed = refl
+
+second-turns : turns nested nested 0 1 2 ≡ 1
+second-turns = refl
+
 third-seed : open_places nested 2 4 ≡ 0 ∷ 1 ∷ []
 third-seed = refl
 

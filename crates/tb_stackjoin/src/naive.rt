@@ -54,7 +54,8 @@ fn pair_with_all<L: Ledger>(
 ) -> Result<(), AllocError>
     requires sorted { IsSortedByStart a.now }
     requires nest { All (λ x. Nests x.label label.now) a.now }
-    ensures { OnOk result (pairs.new.items ≡ pairs.old.items ++ paired (above axis a.now label.now) place) }
+    ensures { OnOk result (pairs.new.items
+        ≡ pairs.old.items ++ paired (above axis a.now label.now) place) }
 {
     'ancestors: for ancestor in 0..count_of(a) {
         if !has_on_axis(label_of(a, ancestor), label, axis, steps) {

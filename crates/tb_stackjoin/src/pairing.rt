@@ -34,7 +34,8 @@ fn pair_parent<L: Ledger>(
 ) -> Result<(), AllocError>
     requires stacked { IsStack a.now (length a.now) stack.now }
     requires above { AreAbove a.now stack.now label.now }
-    ensures pairs { OnOk result (pairs.new.items ≡ pairs.old.items ++ paired (related_places Child a.now label.now stack.now) place) }
+    ensures pairs { OnOk result (pairs.new.items
+        ≡ pairs.old.items ++ paired (related_places Child a.now label.now stack.now) place) }
     ensures cost { steps.new ≤ steps.old + 1 }
 {
     let Some(top) = stack.last() else {
@@ -58,7 +59,8 @@ pub fn pair_all<L: Ledger>(
 ) -> Result<(), AllocError>
     requires stacked { IsStack a.now (length a.now) stack.now }
     requires above { AreAbove a.now stack.now label.now }
-    ensures pairs { OnOk result (pairs.new.items ≡ pairs.old.items ++ paired (related_places axis a.now label.now stack.now) place) }
+    ensures pairs { OnOk result (pairs.new.items
+        ≡ pairs.old.items ++ paired (related_places axis a.now label.now stack.now) place) }
     ensures cost { steps.new ≤ steps.old + 1 }
 {
     match axis {

@@ -53,8 +53,10 @@ pub fn push_started<L: Ledger>(
     requires nest { Nest a.now a.now }
     requires within { first ≤ length a.now }
     requires stacked { IsStack a.now first stack.old.items }
-    ensures pushed { IfOk result (HasPushed a.now first label.now.start stack.old.items stack.new.items) }
-    ensures cost { spent steps.new stack.new.items ≤ spent steps.old stack.old.items + 3 * run a.now first label.now.start + 1 }
+    ensures pushed { IfOk result
+        (HasPushed a.now first label.now.start stack.old.items stack.new.items) }
+    ensures cost { spent steps.new stack.new.items
+        ≤ spent steps.old stack.old.items + 3 * run a.now first label.now.start + 1 }
 {
     let mut next = first;
     'started: while (next as usize) < a.len() {

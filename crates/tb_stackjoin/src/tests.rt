@@ -28,7 +28,8 @@ fn seed_of(alloc: Global, a: &[Known], d: &[Known], lo: u32) -> Result<Seed, All
     requires few { (length a.now < 2 ^ 32) × (length d.now < 2 ^ 32) }
     requires within { lo ≤ length d.now }
     ensures from { IfOk result (λ seed. seed.from ≤ length a.now) }
-    ensures seed { IfOk result (λ seed. IsSeed (map (λ u. u.item) a.now) (map (λ u. u.item) d.now) seed.places.items seed.from lo (length d.now)) }
+    ensures seed { IfOk result (λ seed. IsSeed (map (λ u. u.item) a.now) (map (λ u. u.item) d.now)
+        seed.places.items seed.from lo (length d.now)) }
 {
     if lo as usize == d.len() {
         return Ok(Seed {

@@ -39,7 +39,7 @@ fn time_join(store: &Store, name: &str, axis: Axis) {
 
 /// A number that differs where the pairs do, most likely.
 fn sum(pairs: &[twin::join::Pair]) -> u64 {
-    pairs.iter().fold(0, |sum: u64, pair| {
+    pairs.iter().fold(1, |sum: u64, pair| {
         sum.wrapping_mul(31).wrapping_add(u64::from(pair.a)).wrapping_mul(31).wrapping_add(u64::from(pair.d))
     })
 }
