@@ -6,4 +6,5 @@ pub mod NodeLaws
 pub mod PlacedLaws
 pub mod NestLaws
 pub mod AgreeLaws
+pub mod AxisLaws
 pub mod WorkedRows

@@ -15,7 +15,7 @@ rows-placed clock number parent at k (kid (elem name kids) rest) =
 rows-placed clock number parent at k (kid (attr name value) rest) = ap (λ ps. record { place = at ++ k ∷ []; node = attr name value } ∷ ps) (rows-placed (clock + 2) (number + 1) parent at (k + 1) rest)
 rows-placed clock number parent at k (kid (text value) rest) = ap (λ ps. record { place = at ++ k ∷ []; node = text value } ∷ ps) (rows-placed (clock + 2) (number + 1) parent at (k + 1) rest)
 
-rows-numbered : (clock number parent : ℕ) (at : List ℕ) (k : ℕ) (ks : Plains) → map numbered_of (rows clock number parent at k ks) ≡ all_numbered number ks
+pub rows-numbered : (clock number parent : ℕ) (at : List ℕ) (k : ℕ) (ks : Plains) → map numbered_of (rows clock number parent at k ks) ≡ all_numbered number ks
 rows-numbered clock number parent at k no_kids = refl
 rows-numbered clock number parent at k (kid (elem name kids) rest) =
     ap (λ ps. record { number = number; node = elem name kids } ∷ ps)
