@@ -1,5 +1,5 @@
 -- What filters keep of a list, and of what another filter has kept.
-use Rattle.std.proofs.Common.{◌≡◌, Bool, true, false, cond, List, [], ◌∷◌, ◌++◌, All, filter, refl, sym, ap, ap₂, ◌∙◌, append-nil}
+use Rattle.std.proofs.Common.{◌≡◌, Bool, true, false, cond, List, [], ◌∷◌, ◌++◌, All, filter, map, flat_map, refl, sym, ap, ap₂, ◌∙◌, append-nil}
 use Rattle.std.proofs.lemmas.Bool.{cond-true, cond-false, false≢true, false_from_ne_true}
 use Rattle.std.proofs.lemmas.List.Elements.{All-head, All-tail, filter-append}
 
@@ -42,3 +42,30 @@ filter_push-yes f xs y e = filter-append f xs (y ∷ []) ∙ ap (λ r. filter f 
 
 pub filter_push-no : {X : Type 0} (f : X → Bool) (xs : List X) (y : X) → f y ≡ false → filter f (xs ++ y ∷ []) ≡ filter f xs
 filter_push-no f xs y e = filter-append f xs (y ∷ []) ∙ ap (λ r. filter f xs ++ r) (filter-skip f y [] e) ∙ append-nil (filter f xs)
+
+-- two filters in either order
+pub filter_swap : {X : Type 0} (f g : X → Bool) (xs : List X) → filter f (filter g xs) ≡ filter g (filter f xs)
+filter_swap f g [] = refl
+filter_swap f g (x ∷ xs) = by (f x) (g x) refl refl (filter_swap f g xs)
+  where
+    by : (b c : Bool) → f x ≡ b → g x ≡ c → filter f (filter g xs) ≡ filter g (filter f xs)
+        → filter f (cond c (x ∷ filter g xs) (filter g xs)) ≡ filter g (cond b (x ∷ filter f xs) (filter f xs))
+    by true true e e' same = filter-keep f x (filter g xs) e ∙ ap (λ r. x ∷ r) same ∙ sym (filter-keep g x (filter f xs) e')
+    by true false e e' same = same ∙ sym (filter-skip g x (filter f xs) e')
+    by false true e e' same = filter-skip f x (filter g xs) e ∙ same
+    by false false e e' same = same
+
+-- a filter of what a function gives
+pub filter-map : {X Y : Type 0} (f : Y → Bool) (g : X → Y) (xs : List X) → filter f (map g xs) ≡ map g (filter (λ x. f (g x)) xs)
+filter-map f g [] = refl
+filter-map f g (x ∷ xs) = by (f (g x)) (filter-map f g xs)
+  where
+    by : (b : Bool) → filter f (map g xs) ≡ map g (filter (λ y. f (g y)) xs)
+        → cond b (g x ∷ filter f (map g xs)) (filter f (map g xs)) ≡ map g (cond b (x ∷ filter (λ y. f (g y)) xs) (filter (λ y. f (g y)) xs))
+    by true same = ap (λ r. g x ∷ r) same
+    by false same = same
+
+-- two functions that agree on the list
+pub flat_map_same : {X Y : Type 0} (f g : X → List Y) (xs : List X) → All (λ x. f x ≡ g x) xs → flat_map f xs ≡ flat_map g xs
+flat_map_same f g [] h = refl
+flat_map_same f g (x ∷ xs) h = ap₂ (λ a b. a ++ b) (All-head (λ y. f y ≡ g y) x xs h) (flat_map_same f g xs (All-tail (λ y. f y ≡ g y) x xs h))

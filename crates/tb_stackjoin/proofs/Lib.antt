@@ -9,4 +9,5 @@ pub mod KeptLaws
 pub mod PairLaws
 pub mod JoinLaws
 pub mod ListedLaws
+pub mod SortLaws
 pub mod WorkedRows

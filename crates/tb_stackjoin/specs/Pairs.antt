@@ -1,6 +1,7 @@
 -- The pairs of a structural join: the places of an ancestor and of a descendant in their two lists.
-use Rattle.std.specs.Prelude.{ℕ, ◌-◌, List, length, map, filter, flat_map}
+use Rattle.std.specs.Prelude.{◌≡◌, ℕ, ◌-◌, nat_eq, List, length, map, filter, flat_map}
 use Rattle.std.specs.List.{range_with_len}
+use Rattle.std.specs.List.Sorted.{IsPermutation, IsNonDecreasingBy}
 use Rattle.tb_span.specs.Span.{Span}
 use Rattle.tb_span.specs.Lists.{is_related}
 use Rattle.tb_span.specs.Seeds.{label_at, places}
@@ -30,3 +31,25 @@ pairs_of axis a d j = paired (above axis a (label_at d j)) j
 -- all pairs of the descendants from place lo up to hi, by descendant and then by ancestor
 abbrev pub pairs_by_descendant : Axis → List Item → List Item → ℕ → ℕ → List Pair
 pairs_by_descendant axis a d lo hi = flat_map (pairs_of axis a d) (range_with_len lo (hi - lo))
+
+-- the places in `d` of all that the label u has on the axis, in order
+abbrev pub below : Axis → List Item → Span → List ℕ
+below axis d u = filter (λ j. is_related axis u (label_at d j)) (places (length d))
+
+-- all pairs of the ancestor at place i, by descendant
+abbrev pub pairs_under : Axis → List Item → List Item → ℕ → List Pair
+pairs_under axis a d i = map (λ j. pair i j) (below axis d (label_at a i))
+
+-- all pairs, by ancestor and then by descendant
+abbrev pub pairs_by_ancestor : Axis → List Item → List Item → List Pair
+pairs_by_ancestor axis a d = flat_map (pairs_under axis a d) (places (length a))
+
+-- those of the pairs that have the ancestor at place i
+abbrev pub of_ancestor : ℕ → List Pair → List Pair
+of_ancestor i pairs = filter (λ p. nat_eq p.a i) pairs
+
+-- the second are the first in another order: by ancestor, and those of one ancestor in the order that they had
+pub record AreByAncestor (pairs sorted : List Pair) : Type 0 where
+  pub moved : IsPermutation pairs sorted
+  pub rises : IsNonDecreasingBy (λ p. p.a) sorted
+  pub kept : (i : ℕ) → of_ancestor i sorted ≡ of_ancestor i pairs
