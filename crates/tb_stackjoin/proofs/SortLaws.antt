@@ -1,9 +1,12 @@
 -- The pairs by descendant, sorted by ancestor, are the pairs by ancestor.
-use Rattle.std.proofs.Common.{◌≡◌, ℕ, zero, suc, ◌+◌, ◌-◌, ◌<◌, ◌≤◌, ◌⊎◌, inl, inr, Bool, true, false, cond, nat_eq, nat_lt, List, [], ◌∷◌, ◌++◌, length, All, AllPairs, map, filter, flat_map, refl, sym, ap, ap₂, ◌∙◌, arith}
+use Rattle.std.proofs.Common.{not, ◌&&◌, ◌≡◌, ℕ, zero, suc, ◌+◌, ◌-◌, ◌<◌, ◌≤◌, ◌⊎◌, inl, inr, Bool, true, false, cond, nat_eq, nat_lt, List, [], ◌∷◌, ◌++◌, length, All, AllPairs, map, filter, flat_map, refl, sym, ap, ap₂, ◌∙◌, arith}
 use Rattle.std.specs.List.{range_with_len}
+use Rattle.std.proofs.lemmas.Bool.Decides.{nat_tests}
 use Rattle.std.proofs.lemmas.Bool.{cases_eq, eqb-true, eq-eqb, ne_eqb, ltb-true, lt-ltb, false_from_ne_true}
 use Rattle.std.proofs.lemmas.List.Elements.{All-head, All-tail, All-filter, filter-append, filter_passes}
 use Rattle.std.proofs.lemmas.List.Kept.{AllPairs-filter}
+use Rattle.std.specs.List.Sorted.{IsPermutation, IsNonDecreasingBy, IsStableByKey}
+use Rattle.std.specs.Ordering.{nat_cmp, is_lt}
 use Rattle.std.proofs.lemmas.List.Sorted.{All-permutation}
 use Rattle.tb_span.specs.Lists.{is_related}
 use Rattle.tb_span.specs.Seeds.{label_at, places}
@@ -11,7 +14,7 @@ use Rattle.tb_span.specs.declared.item.Axis.{Axis}
 use Rattle.tb_span.specs.declared.item.Item.{Item}
 use Rattle.tb_span.specs.declared.item.Pair.{Pair}
 use Rattle.tb_stackjoin.specs.Pairs.{pair, above, pairs_of, pairs_by_descendant, pairs_under, pairs_by_ancestor, of_ancestor, AreByAncestor}
-use Rattle.tb_stackjoin.proofs.Filters.{filter_all, filter_none, filter_filter, filter-keep, filter-skip, filter_swap, filter-map, flat_map_same}
+use Rattle.tb_stackjoin.proofs.Filters.{filter_all, filter_none, filter_filter, filter-keep, filter-skip, filter_swap, filter-map, flat_map_same, filter_same}
 use Rattle.tb_stackjoin.proofs.Ranges.{All-range, AllPairs-head, AllPairs-tail}
 use Rattle.tb_stackjoin.proofs.ListedLaws.{IsRelatedPair, listed-related}
 
@@ -108,3 +111,18 @@ by_ancestor axis a d sorted h =
     (All-range (λ i. of_ancestor i sorted ≡ pairs_under axis a d i) 0 (length a)
     (λ i first last.
     h.kept i ∙ ap (λ n. of_ancestor i (flat_map (pairs_of axis a d) (range_with_len 0 n))) whole ∙ pairs_at axis a d i (places (length d)) (omega (arith, last))))
+
+ties_are : (m n : ℕ) → (not (is_lt (nat_cmp m n)) && not (is_lt (nat_cmp n m))) ≡ nat_eq n m
+ties_are m n = grind (arith, nat_tests)
+
+-- A stable sort by ancestor puts the pairs in that order.
+pub by_stable_sort : (pairs sorted : List Pair) → IsPermutation pairs sorted → IsNonDecreasingBy (λ p. p.a) sorted → IsStableByKey (λ (p : Pair). p.a) nat_cmp pairs sorted
+    → AreByAncestor pairs sorted
+by_stable_sort pairs sorted moved rises stable = record {
+  moved = moved;
+  rises = rises;
+  kept = λ i.
+      sym (filter_same _ (λ p. nat_eq p.a i) sorted (λ k e less. ties_are i _))
+      ∙ stable (pair i 0)
+      ∙ filter_same _ (λ p. nat_eq p.a i) pairs (λ k e less. ties_are i _);
+}

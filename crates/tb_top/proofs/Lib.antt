@@ -2,6 +2,7 @@ pub mod Rows
 pub mod CutLaws
 pub mod ScriptLaws
 pub mod PairLaws
+pub mod JoinedLaws
 pub mod WitnessLaws
 pub mod NameLaws
 pub mod PieceLaws

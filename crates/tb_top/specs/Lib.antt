@@ -10,5 +10,6 @@ pub mod FirstForm
 pub mod Cuts
 pub mod Parts
 pub mod Pairs
+pub mod Joined
 pub mod Status
 pub mod Calls

@@ -11,6 +11,7 @@ use std::alloc::{AllocError, Global};
 use std::thread::Threads;
 use tb_edge::{Gate, ReadFault, Sink, Source, read_up_to, write_all};
 use tb_esis::read_plain;
+use tb_label::Store;
 
 /// Bytes of input that are read at most.
 const MOST_INPUT: usize = 67_108_864;
@@ -77,7 +78,8 @@ fn answer(alloc: Global, bytes: &[u8]) -> Result<Option<Vec<u8>>, AllocError>
     let Some(tree) = read_plain(alloc, script.body)? else {
         return Ok(None);
     };
-    let text = transcript(alloc, &script, &tree)?;
+    let store = Store::build(alloc, tree)?;
+    let text = transcript(alloc, &script, &store)?;
     Ok(Some(text))
 }
 

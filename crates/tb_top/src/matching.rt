@@ -1,16 +1,24 @@
-//! Which nodes match: the pairs of a query of two names, by plain recursion.
+//! Which nodes match a query of two names: two structural joins over the labels of a store.
 
-ghost use Rattle.std.specs.Prelude.{◌≡◌, ◌+◌, ◌^◌, ◌<◌, ◌++◌, [], ◌∷◌, if◌then◌else◌, IfOk, OnOk, map};
-ghost use Rattle.std.specs.Str.{bytes_eq};
-ghost use Rattle.tb_tree.specs.Plain.{kid, no_kids};
-ghost use Rattle.tb_tree.specs.View.{plain_of, plains_of};
-ghost use Rattle.tb_tree.specs.Numbers.{count, counts};
+ghost use Rattle.std.specs.Prelude.{◌≡◌, ◌^◌, ◌<◌, IfOk, OnOk, length, map};
+ghost use Rattle.tb_tree.specs.View.{plain_of};
+ghost use Rattle.tb_tree.specs.declared.node_test.Test.TheVariants.{Name};
+ghost use Rattle.tb_span.specs.Lists.{AreJoinable};
+ghost use Rattle.tb_span.specs.declared.item.Axis.TheVariants.{Descendant};
+ghost use Rattle.tb_label.specs.Rows.{listed};
+ghost use Rattle.tb_stackjoin.specs.Pairs.{pairs_by_descendant, AreByAncestor};
 ghost use Rattle.tb_top.specs.Answer.{two_names};
 ghost use Rattle.tb_top.specs.Witness.{naive_witnesses, numbers_in};
-ghost use Rattle.tb_top.specs.Pairs.{numbers_of, seconds_under, firsts_in};
+ghost use Rattle.tb_top.specs.Pairs.{numbers_of};
+ghost use Rattle.tb_top.specs.Joined.{item_at, match_at, ArePlaces};
 
 use std::alloc::{AllocError, Global};
-use tb_tree::Node;
+use std::marker::Brand;
+use std::sync::ledger::{Blank, Ledger};
+use tb_label::Store;
+use tb_span::{Axis, Item, Pair, Steps};
+use tb_stackjoin::join_desc;
+use tb_tree::{Bytes, Test};
 
 /// A node of the first name and a node of the second below it, each by its number in document order,
 /// in which the root has 1.
@@ -23,149 +31,106 @@ pub struct Match {
 /// The matches of two names, in the order of the witnesses.
 pub fn matches(
     alloc: Global,
-    root: &Node,
+    store: &Store,
     first: &[u8],
     second: &[u8],
 ) -> Result<Vec<Match>, AllocError>
-    requires few { 1 + count (plain_of root.now) < 2 ^ 32 }
     ensures { IfOk result (λ found. map numbers_of found.items
-        ≡ map numbers_in (naive_witnesses (two_names first.now second.now) (plain_of root.now))) }
+        ≡ map numbers_in (naive_witnesses (two_names first.now second.now) (plain_of store.now))) }
 {
-    let mut found = Vec::new(alloc);
-    firsts_at(root, 1, first, second, &mut found)?;
+    let first = named(alloc, first)?;
+    let second = named(alloc, second)?;
+    let firsts = below_document(alloc, store, &first)?;
+    let seconds = store.list(&second);
+    let mut pairs = joined::<Brand>(alloc, Blank::new(1), &firsts, seconds)?;
+    put_by_ancestor(&mut pairs)?;
+    let found = matches_of(alloc, &firsts, seconds, &pairs)?;
     Ok(found)
 }
 
-/// Adds the matches of a node of the given number and of all nodes below it. Gives the number of the
-/// node that follows them.
-#[cycle(firsts)]
-fn firsts_at(
-    node: &Node,
-    number: u32,
-    first: &[u8],
-    second: &[u8],
-    found: &mut Vec<Match>,
-) -> Result<u32, AllocError>
-    requires few { number + count (plain_of node.now) < 2 ^ 32 }
-    ensures next { IfOk result (λ next. next ≡ number + count (plain_of node.now)) }
-    ensures found { OnOk result (found.new.items
-        ≡ found.old.items ++ firsts_in first.now second.now number (kid (plain_of node.now) no_kids)) }
+fn named(alloc: Global, name: &[u8]) -> Result<Test, AllocError>
+    ensures { IfOk result (λ test. test ≡ Name name.now) }
 {
-    let Node::Elem { name, kids } = node else {
-        return Ok(number + 1);
-    };
-    let inside = kids.as_slice();
-    seconds_of(
-        is_same(first, name.as_slice()),
-        inside,
-        number,
-        second,
-        found,
-    )?;
-    firsts_below(inside, number + 1, first, second, found)
+    Ok(Test::Name(Bytes::from_vec(name.to_vec(alloc)?)))
 }
 
-/// The same for nodes next to each other, the first of which has the number `next`.
-#[cycle(firsts)]
-fn firsts_below(
-    nodes: &[Node],
-    next: u32,
-    first: &[u8],
-    second: &[u8],
-    found: &mut Vec<Match>,
-) -> Result<u32, AllocError>
-    requires few { next + counts (plains_of nodes.now) < 2 ^ 32 }
-    ensures next { IfOk result (λ after. after ≡ next + counts (plains_of nodes.now)) }
-    ensures found { OnOk result (found.new.items
-        ≡ found.old.items ++ firsts_in first.now second.now next (plains_of nodes.now)) }
+/// The nodes that meet the test, joined with the document node. They all are below it.
+fn below_document(alloc: Global, store: &Store, test: &Test) -> Result<Vec<Item>, AllocError>
+    ensures { IfOk result (λ items. items.items ≡ listed test.now (plain_of store.now)) }
 {
-    let mut number = next;
-    'nodes: for node in nodes {
-        number = firsts_at(node, number, first, second, found)?;
+    let list = store.list(test);
+    let pairs = joined::<Brand>(alloc, Blank::new(1), store.document_item(), list)?;
+    let items = descendants_of(alloc, list, &pairs)?;
+    Ok(items)
+}
+
+/// The places of each node of `d` and of those in `a` above it, by the second.
+fn joined<L: Ledger>(
+    alloc: Global,
+    blank: Blank,
+    a: &[Item],
+    d: &[Item],
+) -> Result<Vec<Pair>, AllocError>
+    requires name { blank.name ≡ L.name }
+    requires parts { blank.parts ≡ L.parts }
+    requires some { 0 < L.parts }
+    requires joinable { AreJoinable a.now d.now }
+    requires few { length d.now < 2 ^ 30 }
+    ensures { IfOk result (λ pairs.
+        pairs.items ≡ pairs_by_descendant Descendant a.now d.now 0 (length d.now)) }
+{
+    let mut steps = Steps::<L>::new(blank);
+    let end = d.len() as u32;
+    join_desc(alloc, a, d, &[], 0, 0, end, Axis::Descendant, &mut steps)
+}
+
+/// The nodes that the pairs have as descendants.
+fn descendants_of(alloc: Global, list: &[Item], pairs: &[Pair]) -> Result<Vec<Item>, AllocError>
+    requires { ArePlaces (λ pair. pair.d) list.now pairs.now }
+    ensures { IfOk result (λ items. items.items ≡ map (λ pair. item_at list.now pair.d) pairs.now) }
+{
+    let mut items = Vec::new(alloc);
+    'pairs: for pair in pairs {
+        items.push(*item_of(list, pair.d))?;
     }
-    Ok(number)
+    Ok(items)
 }
 
-/// Adds the matches of a node with the nodes of the second name below it, where it has the first name.
-fn seconds_of(
-    named: bool,
-    inside: &[Node],
-    number: u32,
-    second: &[u8],
-    found: &mut Vec<Match>,
-) -> Result<(), AllocError>
-    requires few { number + 1 + counts (plains_of inside.now) < 2 ^ 32 }
-    ensures { OnOk result (found.new.items
-        ≡ found.old.items
-        ++ (if named then seconds_under number second.now (number + 1) (plains_of inside.now) else [])) }
+/// Sorts by ancestor, where they aren't so already. The pairs of one ancestor stay in their order.
+fn put_by_ancestor(pairs: &mut Vec<Pair>) -> Result<(), AllocError>
+    ensures { OnOk result (AreByAncestor pairs.old.items pairs.new.items) }
 {
-    if !named {
+    if pairs.is_sorted_by_key(|pair| pair.a) {
         return Ok(());
     }
-    seconds_below(inside, number + 1, number, second, found)?;
+    pairs.sort_by_key(|pair| pair.a)?;
     Ok(())
 }
 
-/// Adds a match of the node `above` with this node and with all nodes below it that have the second
-/// name. Gives the number of the node that follows them.
-#[cycle(seconds)]
-fn seconds_at(
-    node: &Node,
-    number: u32,
-    above: u32,
-    second: &[u8],
-    found: &mut Vec<Match>,
-) -> Result<u32, AllocError>
-    requires few { number + count (plain_of node.now) < 2 ^ 32 }
-    ensures next { IfOk result (λ next. next ≡ number + count (plain_of node.now)) }
-    ensures found { OnOk result (found.new.items
-        ≡ found.old.items ++ seconds_under above second.now number (kid (plain_of node.now) no_kids)) }
+/// Each pair of places as the numbers of its two nodes.
+fn matches_of(
+    alloc: Global,
+    firsts: &[Item],
+    seconds: &[Item],
+    pairs: &[Pair],
+) -> Result<Vec<Match>, AllocError>
+    requires firsts { ArePlaces (λ pair. pair.a) firsts.now pairs.now }
+    requires seconds { ArePlaces (λ pair. pair.d) seconds.now pairs.now }
+    ensures { IfOk result (λ found. found.items ≡ map (match_at firsts.now seconds.now) pairs.now) }
 {
-    let Node::Elem { name, kids } = node else {
-        return Ok(number + 1);
-    };
-    let pair = Match {
-        first: above,
-        second: number,
-    };
-    note(is_same(second, name.as_slice()), pair, found)?;
-    seconds_below(kids.as_slice(), number + 1, above, second, found)
-}
-
-/// The same for nodes next to each other, the first of which has the number `next`.
-#[cycle(seconds)]
-fn seconds_below(
-    nodes: &[Node],
-    next: u32,
-    above: u32,
-    second: &[u8],
-    found: &mut Vec<Match>,
-) -> Result<u32, AllocError>
-    requires few { next + counts (plains_of nodes.now) < 2 ^ 32 }
-    ensures next { IfOk result (λ after. after ≡ next + counts (plains_of nodes.now)) }
-    ensures found { OnOk result (found.new.items
-        ≡ found.old.items ++ seconds_under above second.now next (plains_of nodes.now)) }
-{
-    let mut number = next;
-    'nodes: for node in nodes {
-        number = seconds_at(node, number, above, second, found)?;
+    let mut found = Vec::new(alloc);
+    'pairs: for pair in pairs {
+        found.push(Match {
+            first: item_of(firsts, pair.a).node.index(),
+            second: item_of(seconds, pair.d).node.index(),
+        })?;
     }
-    Ok(number)
+    Ok(found)
 }
 
-/// Adds the match where the name is the one asked for.
-fn note(named: bool, pair: Match, found: &mut Vec<Match>) -> Result<(), AllocError>
-    ensures { OnOk result (found.new.items ≡ found.old.items ++ (if named then pair ∷ [] else [])) }
+fn item_of(items: &[Item], place: u32) -> &Item
+    requires { place < length items.now }
+    ensures { result.now ≡ item_at items.now place }
 {
-    if !named {
-        return Ok(());
-    }
-    found.push(pair)?;
-    Ok(())
-}
-
-fn is_same(a: &[u8], b: &[u8]) -> bool
-    ensures { result ≡ bytes_eq a.now b.now }
-{
-    a == b
+    &items[place as usize]
 }

@@ -9,6 +9,8 @@ use std::thread::Threads;
 use tb_edge::{MemSink, MemSource, OpenGate};
 
 mod labels;
+mod matchings;
+mod plain;
 mod stores;
 
 const NESTED: &[u8] =

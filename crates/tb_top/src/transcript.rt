@@ -1,9 +1,8 @@
 //! The transcript of a script of the first form.
 
-ghost use Rattle.std.specs.Prelude.{◌≡◌, ◌+◌, ◌^◌, ◌<◌, ◌++◌, IfOk, OnOk, length};
+ghost use Rattle.std.specs.Prelude.{◌≡◌, ◌++◌, IfOk, OnOk, length};
 ghost use Rattle.std.specs.List.{flat_map};
 ghost use Rattle.tb_tree.specs.View.{plain_of};
-ghost use Rattle.tb_tree.specs.Numbers.{count};
 ghost use Rattle.tb_top.specs.Answer.{answer_of, two_names};
 ghost use Rattle.tb_top.specs.Transcript.{session_part, load_block, query_block, history_line, history_part};
 ghost use Rattle.tb_top.specs.FirstForm.{IsScript, document_of, transcript_of};
@@ -15,15 +14,14 @@ use crate::printer::{push_history_line, push_load_block, push_number, push_query
 use crate::script::Script;
 use crate::witness::witness_lines;
 use std::alloc::{AllocError, Global};
-use tb_tree::Tree;
+use tb_label::Store;
 
 /// The transcript: the load is change 1, and the query is answered over it.
-pub fn transcript(alloc: Global, script: &Script<'_>, tree: &Tree) -> Result<Vec<u8>, AllocError>
+pub fn transcript(alloc: Global, script: &Script<'_>, store: &Store) -> Result<Vec<u8>, AllocError>
     requires script { IsScript (parts_of script.now) }
-    requires few { 1 + count (plain_of tree.now) < 2 ^ 32 }
-    ensures { IfOk result (λ text. text.items ≡ transcript_of (parts_of script.now) (plain_of tree.now)) }
+    ensures { IfOk result (λ text. text.items ≡ transcript_of (parts_of script.now) (plain_of store.now)) }
 {
-    let found = found_in(alloc, script, tree)?;
+    let found = found_in(alloc, script, store)?;
     let witness = witness_lines(alloc, script.first, script.second)?;
     let mut text = Vec::new(alloc);
     push_session_part(script.name, &found, &witness, &mut text)?;
@@ -32,16 +30,15 @@ pub fn transcript(alloc: Global, script: &Script<'_>, tree: &Tree) -> Result<Vec
 }
 
 /// The matches in the document that the query names, none where it wasn't loaded.
-fn found_in(alloc: Global, script: &Script<'_>, tree: &Tree) -> Result<Vec<Match>, AllocError>
-    requires few { 1 + count (plain_of tree.now) < 2 ^ 32 }
+fn found_in(alloc: Global, script: &Script<'_>, store: &Store) -> Result<Vec<Match>, AllocError>
     ensures { let parts = parts_of script.now in IfOk result (λ found.
         answer_by (witness_text parts.first parts.second) found.items
-        ≡ answer_of (two_names parts.first parts.second) (document_of parts (plain_of tree.now))) }
+        ≡ answer_of (two_names parts.first parts.second) (document_of parts (plain_of store.now))) }
 {
     if script.name != script.document {
         return Ok(Vec::new(alloc));
     }
-    let found = matches(alloc, tree.root(), script.first, script.second)?;
+    let found = matches(alloc, store, script.first, script.second)?;
     Ok(found)
 }
 

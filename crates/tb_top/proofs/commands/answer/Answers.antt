@@ -1,6 +1,7 @@
 -- The bytes are of the first form exactly where a script is found and its body is read as a tree.
-use Rattle.std.proofs.Common.{ℕ, ◌+◌, ◌^◌, ◌<◌, ◌≤◌, sym, arith}
+use Rattle.std.proofs.Common.{ℕ, ◌^◌, ◌<◌, ◌≤◌, sym, ap, ◌∙◌, arith}
 use Rattle.tb_tree.specs.View.{plain_of}
+use Rattle.tb_top.specs.FirstForm.{transcript_of}
 use Rattle.tb_top.specs.Parts.{parts_of}
 use Rattle.tb_top.proofs.ScriptLaws.{no_script, no_tree, script_of-some, body-shorter}
 use Rattle.tb_top.proofs.commands.answer.Goals as goal
@@ -11,14 +12,14 @@ returns-in_default c = no_script c.args.bytes.now c.in_default.ensures
 pub returns-in_default-2 : goal.returns-in_default-2
 returns-in_default-2 c = no_tree c.args.bytes.now (parts_of c.in-Some.script) c.in-Some.ensures (rw c.in_default-2.is at c.in_ok-tree.ensures.read)
 
-pub transcript-requires-clause-script : goal.transcript-requires-clause-script
-transcript-requires-clause-script c = (script_of-some c.args.bytes.now (parts_of c.in-Some.script) (sym c.in-Some.ensures)).1
+pub transcript-requires : goal.transcript-requires
+transcript-requires c = record { script = (script_of-some c.args.bytes.now (parts_of c.in-Some.script) (sym c.in-Some.ensures)).1 }
 
-few : (nodes body bytes : ℕ) → nodes < body → body ≤ bytes → bytes ≤ 67108864 → 1 + nodes < 2 ^ 32
+few : (nodes body bytes : ℕ) → nodes < body → body ≤ bytes → bytes ≤ 67108864 → nodes < 2 ^ 30
 few nodes body bytes a b d = omega arith
 
-pub transcript-requires-clause-few : goal.transcript-requires-clause-few
-transcript-requires-clause-few c =
+pub build-requires-clause-nodes : goal.build-requires-clause-nodes
+build-requires-clause-nodes c =
     let script = parts_of c.in-Some.script in
     let spelled = (script_of-some c.args.bytes.now script (sym c.in-Some.ensures)).0 in
     few _ _ _ (rw c.in-Some-2.is at c.in_ok-tree.ensures.fewer) (body-shorter c.args.bytes.now script spelled) c.requires
@@ -29,5 +30,5 @@ returns c =
       parts_of c.in-Some.script,
       plain_of c.in-Some-2.tree,
       record { spelled = read.0; script = read.1; reading = rw c.in-Some-2.is at c.in_ok-tree.ensures.read },
-      c.in_ok-text.ensures,
+      c.in_ok-text.ensures ∙ ap (λ tree. transcript_of (parts_of c.in-Some.script) (plain_of tree)) c.in_ok-store.ensures,
     )

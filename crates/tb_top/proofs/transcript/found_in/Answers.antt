@@ -10,4 +10,4 @@ pub returns : goal.returns
 returns c =
     let script = c.args.script.now in
     let same : bytes_eq script.name.now script.document.now ≡ true = not-false _ (sym c.if-ne.ensures) in
-    rw (same, sym c.root.ensures.root) (answered script.first.now script.second.now (plain_of c.root.result.now) c.in_ok-found.found.items c.in_ok-found.ensures)
+    rw same (answered script.first.now script.second.now (plain_of c.args.store.now) c.in_ok-found.found.items c.in_ok-found.ensures)

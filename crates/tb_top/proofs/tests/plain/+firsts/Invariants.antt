@@ -2,7 +2,7 @@ use Rattle.std.proofs.Common.{◌≡◌, ◌+◌, ◌++◌, drop}
 use Rattle.tb_tree.specs.View.{plains_of}
 use Rattle.tb_tree.specs.Numbers.{counts}
 use Rattle.tb_top.specs.Pairs.{firsts_in}
-use Rattle.tb_top.proofs.matching.+firsts.Given as goal
+use Rattle.tb_top.proofs.tests.plain.+firsts.Given as goal
 
 -- what is found and numbered so far, with what is left, makes the whole
 abbrev pub invariant-firsts_below-nodes : goal.invariant-firsts_below-nodes

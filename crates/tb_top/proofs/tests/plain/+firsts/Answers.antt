@@ -2,7 +2,7 @@
 use Rattle.std.proofs.Common.{arith}
 use Rattle.tb_top.specs.Pairs.{firsts_in}
 use Rattle.tb_top.proofs.PairLaws.{walked-more, firsts_in-kid}
-use Rattle.tb_top.proofs.matching.+firsts.Goals as goal
+use Rattle.tb_top.proofs.tests.plain.+firsts.Goals as goal
 
 pub firsts_below-nodes-preserved : goal.firsts_below-nodes-preserved
 firsts_below-nodes-preserved t c =

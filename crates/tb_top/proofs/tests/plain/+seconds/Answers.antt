@@ -2,7 +2,7 @@
 use Rattle.std.proofs.Common.{arith}
 use Rattle.tb_top.specs.Pairs.{seconds_under}
 use Rattle.tb_top.proofs.PairLaws.{walked-more, seconds_under-kid}
-use Rattle.tb_top.proofs.matching.+seconds.Goals as goal
+use Rattle.tb_top.proofs.tests.plain.+seconds.Goals as goal
 
 pub seconds_below-nodes-preserved : goal.seconds_below-nodes-preserved
 seconds_below-nodes-preserved t c =
