@@ -1,13 +1,19 @@
 //! The plain program that the proved one is timed against.
 //!
 //! It settles the same scripts by the same steps over the same data: read all of standard input,
-//! cut the script, read the body into a tree, collect the matches, append a witness tree for each,
-//! and write the transcript at once. `bench/run` compares the two outputs byte for byte.
+//! cut the script, read the body into a tree, label its nodes, join the lists of the two names, sort the
+//! pairs by ancestor, append a witness tree for each, and write the transcript at once. With the word
+//! `walk` it finds the matches by walking the tree and labels nothing. With `times` it tells on standard
+//! error how long each step took, in nanoseconds. `bench/run` compares the outputs byte for byte.
 
+use std::env;
 use std::fs::File;
 use std::io::{self, Write};
 use std::os::fd::AsFd;
 use std::process::ExitCode;
+use std::time::Instant;
+use twin::join::{Axis, join_desc};
+use twin::store::{Item, Store};
 use twin::{MOST_BYTES, Node, document, read_up_to_most};
 
 /// What a script names, and the lines of its document.
@@ -27,26 +33,80 @@ struct Match {
     second: u32,
 }
 
+/// Tells how long each step took, where it is asked to.
+struct Clock {
+    told: bool,
+    last: Instant,
+}
+
+impl Clock {
+    fn tell(&mut self, step: &str) {
+        if self.told {
+            eprintln!("{step} {}", self.last.elapsed().as_nanos());
+        }
+        self.last = Instant::now();
+    }
+}
+
 fn main() -> io::Result<ExitCode> {
+    let word = env::args().nth(1).unwrap_or_default();
+    let mut clock = Clock { told: word == "times", last: Instant::now() };
     let bytes = read_up_to_most(&mut io::stdin().lock())?;
-    let transcript = transcript_of(&bytes);
+    clock.tell("input");
+    let transcript = transcript_of(&bytes, word == "walk", &mut clock);
     let status = if transcript.is_some() { 0 } else { 9 };
     let output = transcript.unwrap_or(b"not-built\n".to_vec());
     // `Stdout` buffers by lines and searches each piece for its last line end. All bytes are here
     // already, so they go to the file itself, in one call.
     File::from(io::stdout().as_fd().try_clone_to_owned()?).write_all(&output)?;
+    clock.tell("output");
     Ok(ExitCode::from(status))
 }
 
 /// What the script is answered, or `None` where the bytes aren't of the form.
-fn transcript_of(bytes: &[u8]) -> Option<Vec<u8>> {
+fn transcript_of(bytes: &[u8], walk: bool, clock: &mut Clock) -> Option<Vec<u8>> {
     let script = script_of(bytes)?;
     let root = document(script.body)?;
+    clock.tell("tree");
+    if walk {
+        let mut matches = Vec::new();
+        if script.name == script.document {
+            push_matches(&root, 1, &script, &mut matches);
+        }
+        return Some(transcript(&script, &matches));
+    }
+    let store = Store::build(root);
+    clock.tell("labels");
     let mut matches = Vec::new();
     if script.name == script.document {
-        push_matches(&root, 1, &script, &mut matches);
+        matches = joined(&store, &script, clock);
     }
-    Some(transcript(&script, &matches))
+    let text = transcript(&script, &matches);
+    clock.tell("lines");
+    drop(store);
+    clock.tell("freeing");
+    Some(text)
+}
+
+/// The matches by two joins: the document with the first name, and that with the second.
+fn joined(store: &Store, script: &Script, clock: &mut Clock) -> Vec<Match> {
+    let list = store.named(script.first);
+    let below = join_desc(store.document_item(), list, Axis::Descendant);
+    let firsts: Vec<Item> = below.iter().map(|pair| list[pair.d as usize]).collect();
+    let seconds = store.named(script.second);
+    let mut pairs = join_desc(&firsts, seconds, Axis::Descendant);
+    clock.tell("joins");
+    if !pairs.is_sorted_by_key(|pair| pair.a) {
+        pairs.sort_by_key(|pair| pair.a);
+    }
+    clock.tell("sort");
+    pairs
+        .iter()
+        .map(|pair| Match {
+            first: firsts[pair.a as usize].node,
+            second: seconds[pair.d as usize].node,
+        })
+        .collect()
 }
 
 /// The parts of a script, whose body is any lines.
