@@ -1,4 +1,4 @@
--- The matches found by walking the tree are the witnesses of the query.
+-- What a walk finds with one node more: the plain program of the tests adds the matches of node after node.
 use Rattle.std.proofs.Common.{◌≡◌, ℕ, ◌+◌, ◌<◌, List, ◌++◌, length, get_or, drop, map, sym, ap, ap₂, ◌∙◌, arith, append_assoc}
 use Rattle.std.specs.List.{flat_map}
 use Rattle.std.proofs.lemmas.List.{map-append}

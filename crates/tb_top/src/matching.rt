@@ -64,7 +64,7 @@ fn below_document(alloc: Global, store: &Store, test: &Test) -> Result<Vec<Item>
     Ok(items)
 }
 
-/// The places of each node of `d` and of those in `a` above it, by the second.
+/// The pairs of a node of `a` and a node of `d` below it, by their places, in the order of `d`.
 fn joined<L: Ledger>(
     alloc: Global,
     blank: Blank,
@@ -96,7 +96,8 @@ fn descendants_of(alloc: Global, list: &[Item], pairs: &[Pair]) -> Result<Vec<It
     Ok(items)
 }
 
-/// Sorts by ancestor, where they aren't so already. The pairs of one ancestor stay in their order.
+/// Puts the pairs in the order of their ancestors; those of one ancestor stay in the order that they have.
+/// Where no ancestor stands inside another they are in that order already, and left alone.
 fn put_by_ancestor(pairs: &mut Vec<Pair>) -> Result<(), AllocError>
     ensures { OnOk result (AreByAncestor pairs.old.items pairs.new.items) }
 {
