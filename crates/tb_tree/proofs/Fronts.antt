@@ -1,7 +1,8 @@
 -- The bytes at a front that pass a test.
-use Rattle.std.proofs.Common.{◌≡◌, ℕ, ◌+◌, suc, Bool, true, false, cond, List, [], ◌∷◌, ◌++◌, length, take, refl, arith}
+use Rattle.std.proofs.Common.{◌≡◌, ℕ, zero, ◌+◌, suc, ◌≤◌, Bool, not, ◌==◌, true, false, cond, List, [], ◌∷◌, ◌++◌, length, take, refl, arith}
 use Rattle.std.specs.List.{prefix_len, list_all}
-use Rattle.std.proofs.lemmas.Bool.{and_parts, and_from}
+use Rattle.std.proofs.lemmas.Bool.{and_parts, and_from, not_from_false, false_from_ne_true}
+use Rattle.memchr.specs.Find.{Nowhere, Passes, is_byte}
 
 -- the run of bytes that pass ends where one fails
 pub prefix_len-stop : (test : ℕ → Bool) (name : List ℕ) (b : ℕ) (rest : List ℕ) → list_all test name ≡ true → test b ≡ false → prefix_len test (name ++ b ∷ rest) ≡ length name
@@ -21,3 +22,15 @@ taken test b bytes false e all = refl
 pub take-prefix_len : (test : ℕ → Bool) (bytes : List ℕ) → list_all test (take (prefix_len test bytes) bytes) ≡ true
 take-prefix_len test [] = refl
 take-prefix_len test (b ∷ bytes) = taken test b bytes (test b) refl (take-prefix_len test bytes)
+
+-- another byte than this one
+abbrev pub is_other : ℕ → ℕ → Bool
+is_other b x = not (x == b)
+
+-- before the first place that has the byte all bytes are others
+pub others-front : (b : ℕ) (bytes : List ℕ) (n : ℕ) → n ≤ length bytes → Nowhere (Passes (is_byte b) bytes) 0 n → list_all (is_other b) (take n bytes) ≡ true
+others-front b bytes zero within none = refl
+others-front b [] (suc n) within none = refl
+others-front b (x ∷ bytes) (suc n) within none =
+    and_from (is_other b x) (list_all (is_other b) (take n bytes)) (not_from_false (x == b) (false_from_ne_true (x == b) (none 0 (omega arith) (omega arith))))
+    (others-front b bytes n (omega arith) (λ k low high passes. none (suc k) (omega arith) (omega arith) passes))

@@ -1,6 +1,7 @@
 -- Documents as plain data, from the node to what is said of it, and then its lines.
 pub mod formers
 pub mod Steps
+pub mod TextLines
 pub mod Plain
 pub mod View
 pub mod Names

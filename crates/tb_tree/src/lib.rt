@@ -6,12 +6,16 @@
 
 mod bytes;
 mod items;
+mod line;
 mod node;
 mod node_test;
 mod tree;
+mod values;
 
 pub use bytes::Bytes;
 pub use items::Items;
+pub use line::next_line;
 pub use node::{Kids, Node};
 pub use node_test::Test;
 pub use tree::Tree;
+pub use values::value;

@@ -1,9 +1,10 @@
 //! A whole document.
 
-ghost use Rattle.std.specs.Prelude.{◌≡◌, ◌↔◌, IsTrue, IsSome, IfSome};
+ghost use Rattle.std.specs.Prelude.{◌≡◌, ◌<◌, ◌^◌, ◌↔◌, IsTrue, IsSome, IfSome};
 ghost use Rattle.tb_tree.specs.View.{plain_of};
 ghost use Rattle.tb_tree.specs.Plain.{is_element};
 ghost use Rattle.tb_tree.specs.Sound.{IsSound};
+ghost use Rattle.tb_tree.specs.Numbers.{count};
 
 use crate::Node;
 use std::marker::Model;
@@ -53,4 +54,28 @@ impl Tree {
     {
         &self.root
     }
+
+    /// How many nodes the document has, the document node apart.
+    pub fn count(&self) -> u32
+        requires few { count (plain_of self.now) < 2 ^ 32 }
+        ensures { result ≡ count (plain_of self.now) }
+    {
+        count_from(&self.root)
+    }
+}
+
+/// The node and all nodes below it.
+fn count_from(node: &Node) -> u32
+    requires { count (plain_of node.now) < 2 ^ 32 }
+    ensures { result ≡ count (plain_of node.now) }
+{
+    let Node::Elem { kids, .. } = node else {
+        return 1;
+    };
+    let kids = kids.as_slice();
+    let mut nodes = 1;
+    'kids: for kid in kids {
+        nodes += count_from(kid);
+    }
+    nodes
 }
