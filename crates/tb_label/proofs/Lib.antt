@@ -1,3 +1,4 @@
+pub mod NamesLaws
 pub mod RowLaws
 pub mod EntryLaws
 pub mod LinkLaws

@@ -1,8 +1,9 @@
 -- What the lists of a store hold for each name and each test.
 use Rattle.std.specs.Prelude.{ℕ, Bool, true, false, List, [], ◌∷◌}
-use Rattle.std.specs.HashMap.{get}
+use Rattle.std.specs.BTreeMap.{get}
+use Rattle.std.specs.Ordering.{nat_cmp}
+use Rattle.std.specs.Cmp.Lexicographic.{slice_cmp}
 use Rattle.std.specs.Option.{option_map_or}
-use Rattle.std.specs.Str.{bytes_eq}
 use Rattle.tb_span.specs.declared.item.Item.{Item}
 use Rattle.tb_tree.specs.declared.node_test.Test.{Test}
 use Rattle.tb_tree.specs.declared.node_test.Test.TheVariants.{Name, AnyElement, AttrName, AnyAttr, AnyText}
@@ -10,7 +11,7 @@ use Rattle.tb_label.specs.declared.lists.Names.{Names}
 use Rattle.tb_label.specs.declared.lists.Lists.{Lists}
 
 abbrev pub in_names : Names → List ℕ → List Item
-in_names names name = option_map_or (λ list. list.items) (get bytes_eq names.lists name) []
+in_names names name = option_map_or (λ list. list.items) (get (slice_cmp nat_cmp) names.lists name) []
 
 abbrev pub in_lists : Lists → Test → List Item
 in_lists lists (Name name) = in_names lists.elements name

@@ -9,14 +9,14 @@ ghost use Rattle.tb_tree.specs.declared.node_test.Test.{Test};
 ghost use Rattle.tb_label.specs.Lists.{in_names, in_lists, one_if};
 
 use std::alloc::{AllocError, Global};
-use std::collections::HashMap;
+use std::collections::BTreeMap;
 use tb_span::Item;
 use tb_tree::{Bytes, Node, Test};
 
 /// The items of each name, by start.
 #[derive(Drop)]
 pub struct Names {
-    pub lists: HashMap<Bytes, Vec<Item>>,
+    pub lists: BTreeMap<Bytes, Vec<Item>>,
 }
 
 impl Names {
@@ -24,7 +24,7 @@ impl Names {
         ensures { (q : List ℕ) → in_names result q ≡ [] }
     {
         Names {
-            lists: HashMap::new(alloc),
+            lists: BTreeMap::new(alloc),
         }
     }
 
