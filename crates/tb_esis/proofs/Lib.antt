@@ -1,3 +1,4 @@
 pub mod LineLaws
 pub mod SpelledLaws
 pub mod BodyLaws
+pub mod PrintLaws

@@ -2,4 +2,5 @@
 pub mod Elements
 pub mod Lines
 pub mod Spelled
+pub mod Written
 pub mod Calls

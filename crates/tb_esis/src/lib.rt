@@ -5,6 +5,7 @@
 //! one at most), and `write_nodes` appends the lines of its nodes (`printed`) or nothing (`unchanged`).
 #![tactic(auto)]
 
+mod escaped;
 mod line;
 mod printer;
 mod reader;

@@ -1,20 +1,25 @@
 //! Printing.
 
-ghost use Rattle.std.specs.Prelude.{◌≡◌, ◌++◌, IsTrue, OnOk, OnErr, take, length};
-ghost use Rattle.tb_tree.specs.View.{plains_of};
-ghost use Rattle.tb_tree.specs.Sound.{are_sound};
-ghost use Rattle.tb_tree.specs.Printed.{printed};
-ghost use Rattle.tb_esis.specs.Elements.{are_elements};
-ghost use Rattle.tb_esis.specs.Spelled.{spelled, spelled_line, IsGrown};
+ghost use Rattle.std.specs.Prelude.{◌≡◌, ◌++◌, IsTrue, OnOk, OnErr};
+ghost use Rattle.tb_tree.specs.View.{plain_of, plains_of};
+ghost use Rattle.tb_tree.specs.Sound.{is_attribute, attributes_first, are_sound, IsSound};
+ghost use Rattle.tb_tree.specs.Printed.{
+  printed,
+  printed_node,
+  attribute_lines,
+  content_lines,
+  attribute_line,
+  data_line,
+};
+ghost use Rattle.tb_esis.specs.Written.{named_line, IsGrown};
 
+use crate::escaped::push_escaped;
 use std::alloc::{AllocError, Global};
 use tb_tree::Node;
 
 /// Appends the lines of the nodes, one node after the other. After a refusal `out` is as it was.
 pub fn write_nodes(alloc: Global, nodes: &[Node], out: &mut Vec<u8>) -> Result<(), AllocError>
     requires sound { IsTrue (are_sound (plains_of nodes.now)) }
-    // Attributes and texts aren't printed yet.
-    requires elements { IsTrue (are_elements (plains_of nodes.now)) }
     ensures printed { OnOk result (out.new.items ≡ out.old.items ++ printed (plains_of nodes.now)) }
     ensures unchanged { OnErr result (out.new.items ≡ out.old.items) }
 {
@@ -28,22 +33,102 @@ pub fn write_nodes(alloc: Global, nodes: &[Node], out: &mut Vec<u8>) -> Result<(
 }
 
 fn push_nodes(nodes: &[Node], out: &mut Vec<u8>) -> Result<(), AllocError>
-    ensures spelled { OnOk result (out.new.items ≡ out.old.items ++ spelled (plains_of nodes.now)) }
+    requires sound { IsTrue (are_sound (plains_of nodes.now)) }
+    ensures printed { OnOk result (out.new.items ≡ out.old.items ++ printed (plains_of nodes.now)) }
     ensures front { IsGrown out.old.items out.new.items }
 {
     'nodes: for node in nodes {
-        let Node::Elem { name, kids } = node else {
-            continue;
-        };
-        push_line(b'(', name.as_slice(), out)?;
-        push_nodes(kids.as_slice(), out)?;
-        push_line(b')', name.as_slice(), out)?;
+        push_node(node, out)?;
     }
     Ok(())
 }
 
-fn push_line(lead: u8, name: &[u8], out: &mut Vec<u8>) -> Result<(), AllocError>
-    ensures line { OnOk result (out.new.items ≡ out.old.items ++ spelled_line lead name.now) }
+#[cycle(printing)]
+fn push_node(node: &Node, out: &mut Vec<u8>) -> Result<(), AllocError>
+    requires sound { IsSound (plain_of node.now) }
+    ensures printed { OnOk result (out.new.items ≡ out.old.items
+        ++ printed_node (plain_of node.now)) }
+    ensures front { IsGrown out.old.items out.new.items }
+{
+    match node {
+        Node::Elem { name, kids } => {
+            push_attributes(kids.as_slice(), out)?;
+            push_named(b'(', name.as_slice(), out)?;
+            push_content(kids.as_slice(), out)?;
+            push_named(b')', name.as_slice(), out)
+        }
+        Node::Attr { name, value } => push_attribute(name.as_slice(), value.as_slice(), out),
+        Node::Text { value } => push_data(value.as_slice(), out),
+    }
+}
+
+/// The kids but for the attributes.
+#[cycle(printing)]
+fn push_content(kids: &[Node], out: &mut Vec<u8>) -> Result<(), AllocError>
+    requires sound { IsTrue (are_sound (plains_of kids.now)) }
+    ensures printed { OnOk result (out.new.items ≡ out.old.items
+        ++ content_lines (plains_of kids.now)) }
+    ensures front { IsGrown out.old.items out.new.items }
+{
+    'kids: for kid in kids {
+        if is_attribute(kid) {
+            continue;
+        }
+        push_node(kid, out)?;
+    }
+    Ok(())
+}
+
+fn is_attribute(node: &Node) -> bool
+    ensures { result ≡ is_attribute (plain_of node.now) }
+{
+    match node {
+        Node::Attr { .. } => true,
+        _ => false,
+    }
+}
+
+/// The attributes, which stand first.
+fn push_attributes(kids: &[Node], out: &mut Vec<u8>) -> Result<(), AllocError>
+    requires first { IsTrue (attributes_first (plains_of kids.now)) }
+    ensures printed { OnOk result (out.new.items ≡ out.old.items
+        ++ attribute_lines (plains_of kids.now)) }
+    ensures front { IsGrown out.old.items out.new.items }
+{
+    'kids: for kid in kids {
+        let Node::Attr { name, value } = kid else {
+            return Ok(());
+        };
+        push_attribute(name.as_slice(), value.as_slice(), out)?;
+    }
+    Ok(())
+}
+
+fn push_attribute(name: &[u8], value: &[u8], out: &mut Vec<u8>) -> Result<(), AllocError>
+    ensures line { OnOk result (out.new.items ≡ out.old.items
+        ++ attribute_line name.now value.now) }
+    ensures front { IsGrown out.old.items out.new.items }
+{
+    out.push(b'A')?;
+    out.extend_from_slice(name)?;
+    out.extend_from_slice(b" CDATA ")?;
+    push_escaped(value, out)?;
+    out.push(b'\n')?;
+    Ok(())
+}
+
+fn push_data(value: &[u8], out: &mut Vec<u8>) -> Result<(), AllocError>
+    ensures line { OnOk result (out.new.items ≡ out.old.items ++ data_line value.now) }
+    ensures front { IsGrown out.old.items out.new.items }
+{
+    out.push(b'-')?;
+    push_escaped(value, out)?;
+    out.push(b'\n')?;
+    Ok(())
+}
+
+fn push_named(lead: u8, name: &[u8], out: &mut Vec<u8>) -> Result<(), AllocError>
+    ensures line { OnOk result (out.new.items ≡ out.old.items ++ named_line lead name.now) }
     ensures front { IsGrown out.old.items out.new.items }
 {
     out.push(lead)?;

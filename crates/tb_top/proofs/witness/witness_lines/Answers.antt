@@ -6,8 +6,8 @@ use Rattle.tb_top.specs.Pairs.{tree_of_names}
 use Rattle.tb_top.proofs.NameLaws.{tree_of_names-sound}
 use Rattle.tb_top.proofs.witness.witness_lines.Goals as goal
 
-pub write_nodes-requires-clause-sound : goal.write_nodes-requires-clause-sound
-write_nodes-requires-clause-sound c =
+pub write_nodes-requires : goal.write_nodes-requires
+write_nodes-requires c =
     let first = c.args.first.now in
     let second = c.args.second.now in
     let below = c.in_ok-below.ensures ∙ ap (λ ks. elem second (plains_of ks)) c.new.ensures.items in
@@ -15,4 +15,4 @@ write_nodes-requires-clause-sound c =
     let witness = c.in_ok-witness.ensures ∙ ap (elem (codes "witness")) (c.in_ok-alone-2.ensures ∙ ap (λ n. kid n no_kids) above) in
     let is : plains_of c.deref.result.now ≡ kid (tree_of_names first second) no_kids =
     ap plains_of c.deref.ensures.value ∙ c.in_ok-alone-3.ensures ∙ ap (λ n. kid n no_kids) witness in
-    rw is (tree_of_names-sound first second c.requires.first c.requires.second)
+    record { sound = rw is (tree_of_names-sound first second c.requires.first c.requires.second) }
