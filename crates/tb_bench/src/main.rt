@@ -1,8 +1,7 @@
 //! `tb_bench`: times the engine's calls one by one, for `bench/`.
 //!
-//! It reads a document of elements on standard input, labels it, and joins its elements `part` with its
-//! elements `item`. What it found goes to standard output, and how long each call took, in nanoseconds, to
-//! standard error.
+//! It reads a document on standard input, labels it, and joins its elements `part` with its elements `item`.
+//! What it found goes to standard output, and how long each call took, in nanoseconds, to standard error.
 #![tactic(auto)]
 
 ghost use Rattle.std.specs.Prelude.{◌≡◌, ◌^◌, ◌<◌, ◌≤◌, IfOk, IfSome};
@@ -17,32 +16,86 @@ use std::marker::Brand;
 use std::process::ExitCode;
 use std::sync::ledger::{Blank, Ledger};
 use std::time::Instant;
-use tb_edge::{HostSource, Source, read_up_to};
-use tb_esis::read_plain;
+use tb_edge::{HostSource, read_up_to};
+use tb_esis::read_tree;
 use tb_label::Store;
 use tb_span::{Axis, Pair, Steps};
 use tb_stackjoin::join_desc;
-use tb_tree::{Bytes, Test, Tree};
+use tb_tree::{Bytes, Test, Tree, value};
 
 /// Bytes of a document at most.
 const MOST_INPUT: usize = 67_108_864;
 
 fn main(rt: HostRuntime) -> io::Result<ExitCode> {
     let mut source = HostSource::new(rt.stdin());
-    let Ok(Some(tree)) = document(rt.alloc(), &mut source) else {
-        eprintln!(rt; "no document")?;
+    let Ok(lines) = read_up_to(rt.alloc(), &mut source, MOST_INPUT) else {
+        eprintln!(rt; "no input")?;
         return Ok(ExitCode::FAILURE);
     };
-    let start = Instant::now(&rt)?;
-    let store = Store::build(rt.alloc(), tree)?;
-    let took = start.elapsed(&rt)?;
-    println!(rt; "elements {}", store.list(&Test::AnyElement).len())?;
-    eprintln!(rt; "label {}", took.as_nanos())?;
-    println!(rt; "part {}", store.list(&named(rt.alloc(), b"part")?).len())?;
-    println!(rt; "item {}", store.list(&named(rt.alloc(), b"item")?).len())?;
+    let Some(tree) = time_read(&rt, lines)? else {
+        return Ok(ExitCode::FAILURE);
+    };
+    tell_text(&rt, &tree)?;
+    let store = time_label(&rt, tree)?;
+    tell_counts(&rt, &store)?;
     time_join(&rt, &store, "descendant", Axis::Descendant)?;
     time_join(&rt, &store, "child", Axis::Child)?;
     Ok(ExitCode::SUCCESS)
+}
+
+/// Reads the document of the lines, or says why there is none. The lines are freed.
+fn time_read(rt: &HostRuntime, lines: Vec<u8>) -> io::Result<Option<Tree>>
+    ensures { IfOk result (λ read. IfSome read (λ tree.
+        (count (plain_of tree) < 2 ^ 30) × (levels (one (plain_of tree)) ≤ 512))) }
+{
+    if lines.len() > MOST_INPUT {
+        eprintln!(rt; "no document: more than {MOST_INPUT} bytes")?;
+        return Ok(None);
+    }
+    let start = Instant::now(rt)?;
+    let read = read_tree(rt.alloc(), &lines);
+    let took = start.elapsed(rt)?;
+    let tree = match read {
+        Ok(tree) => tree,
+        Err(fault) => {
+            eprintln!(rt; "no document: {fault:?}")?;
+            return Ok(None);
+        }
+    };
+    eprintln!(rt; "read {}", took.as_nanos())?;
+    Ok(Some(tree))
+}
+
+/// Says what the texts are.
+fn tell_text(rt: &HostRuntime, tree: &Tree) -> io::Result<()> {
+    let text = value(rt.alloc(), tree.root())?;
+    println!(rt; "text {}", text.as_slice().len())?;
+    println!(rt; "text-sum {}", sum(text.as_slice()))
+}
+
+/// Labels the document.
+fn time_label(rt: &HostRuntime, tree: Tree) -> io::Result<Store>
+    requires few { count (plain_of tree) < 2 ^ 30 }
+    requires levels { levels (one (plain_of tree)) ≤ 512 }
+{
+    let start = Instant::now(rt)?;
+    let store = Store::build(rt.alloc(), tree)?;
+    let took = start.elapsed(rt)?;
+    eprintln!(rt; "label {}", took.as_nanos())?;
+    Ok(store)
+}
+
+/// Says how many nodes there are of each kind, and of the two names.
+fn tell_counts(rt: &HostRuntime, store: &Store) -> io::Result<()> {
+    tell_count(rt, store, "elements", &Test::AnyElement)?;
+    tell_count(rt, store, "attributes", &Test::AnyAttr)?;
+    tell_count(rt, store, "texts", &Test::AnyText)?;
+    tell_count(rt, store, "part", &named(rt.alloc(), b"part")?)?;
+    tell_count(rt, store, "item", &named(rt.alloc(), b"item")?)
+}
+
+fn tell_count(rt: &HostRuntime, store: &Store, name: &str, test: &Test) -> io::Result<()> {
+    println!(rt; "{name} {}", store.list(test).len())
 }
 
 fn named(alloc: Global, name: &[u8]) -> Result<Test, AllocError> {
@@ -57,7 +110,7 @@ fn time_join(rt: &HostRuntime, store: &Store, name: &str, axis: Axis) -> io::Res
     let pairs = joined::<Brand>(rt.alloc(), Blank::new(1), store, &part, &item, axis)?;
     let took = start.elapsed(rt)?;
     println!(rt; "{name} {}", pairs.len())?;
-    println!(rt; "{name}-sum {}", sum(&pairs))?;
+    println!(rt; "{name}-sum {}", pairs_sum(&pairs))?;
     eprintln!(rt; "{name} {}", took.as_nanos())
 }
 
@@ -81,7 +134,7 @@ fn joined<L: Ledger>(
 }
 
 /// A number that differs where the pairs do, most likely.
-fn sum(pairs: &[Pair]) -> u64 {
+fn pairs_sum(pairs: &[Pair]) -> u64 {
     let mut sum = 1u64;
     'pairs: for pair in pairs {
         sum = sum.wrapping_mul(31).wrapping_add(u64::from(pair.a));
@@ -90,13 +143,11 @@ fn sum(pairs: &[Pair]) -> u64 {
     sum
 }
 
-/// The document that the source gives to its end, or none.
-fn document<S: Source>(alloc: Global, source: &mut S) -> Result<Option<Tree>, AllocError>
-    ensures { IfOk result (λ read. IfSome read (λ tree.
-        (count (plain_of tree) < 2 ^ 30) × (levels (one (plain_of tree)) ≤ 512))) }
-{
-    let Ok(lines) = read_up_to(alloc, source, MOST_INPUT) else {
-        return Ok(None);
-    };
-    read_plain(alloc, &lines)
+/// A number that differs where the bytes do, most likely.
+fn sum(bytes: &[u8]) -> u64 {
+    let mut sum = 1u64;
+    'bytes: for byte in bytes {
+        sum = sum.wrapping_mul(31).wrapping_add(u64::from(*byte));
+    }
+    sum
 }

@@ -1,25 +1,24 @@
 -- What the calls answer.
-use Rattle.std.specs.Prelude.{◌≡◌, ℕ, false, Option, Some, None, List}
-use Rattle.tb_tree.specs.Plain.{Plain, Plains, no_kids, kid}
+use Rattle.std.specs.Prelude.{◌≡◌, ℕ, ⊤, Bool, true, false, List, ◌++◌, Some, None, Result, Ok, Err}
 use Rattle.tb_tree.specs.View.{plain_of}
 use Rattle.tb_tree.specs.declared.node.Node.{Node}
-use Rattle.tb_esis.specs.Elements.{IsReadAs}
-use Rattle.tb_esis.specs.Lines.{begins}
-use Rattle.tb_esis.specs.Spelled.{Spells}
+use Rattle.tb_esis.specs.Escapes.{unescaped}
+use Rattle.tb_esis.specs.Reading.{IsReadAs}
+use Rattle.tb_esis.specs.Faults.{fault_of}
+use Rattle.tb_esis.specs.declared.fault.EsisFault.{EsisFault}
+use Rattle.tb_esis.specs.declared.fault.EsisFault.TheVariants.{NoMemory}
 
--- the tree that the lines are read as, or none where they are read as no tree
-abbrev pub Reads : List ℕ → Option Node → Type 0
-Reads lines (Some tree) = IsReadAs lines (plain_of tree)
-Reads lines None = (tree : Plain) → IsReadAs lines tree → ⊥
+-- nothing is said where memory was refused
+abbrev pub UnlessMemory : EsisFault → Type 0 → Type 0
+UnlessMemory NoMemory P = ⊤
+UnlessMemory _ P = P
 
--- the element at the front with what follows it, or none where no element stands there
-abbrev pub ReadsElement : ℕ → List ℕ → Option (Plain × List ℕ) → Type 0
-ReadsElement room bytes (Some found) = Spells room (kid found.0 no_kids) bytes found.1
-ReadsElement room bytes None =
-    (node : Plain) (rest : List ℕ) → Spells room (kid node no_kids) bytes rest → ⊥
+-- the tree that the bytes are read as, or their first fault
+abbrev pub Reads : List ℕ → Result Node EsisFault → Type 0
+Reads bytes (Ok tree) = IsReadAs bytes (plain_of tree)
+Reads bytes (Err fault) = UnlessMemory fault (fault_of bytes ≡ Some fault)
 
--- all elements at the front with what follows them, which begins no element
-abbrev pub ReadsElements : ℕ → List ℕ → Option (Plains × List ℕ) → Type 0
-ReadsElements room bytes (Some found) = Spells room found.0 bytes found.1 × (begins 40 found.1 ≡ false)
-ReadsElements room bytes None =
-    (nodes : Plains) (rest : List ℕ) → Spells room nodes bytes rest → begins 40 rest ≡ false → ⊥
+-- the bytes grew by what the raw ones give, or a backslash among these begins no escape
+abbrev pub Unescapes : List ℕ → List ℕ → List ℕ → Bool → Type 0
+Unescapes raw old new true = (given : List ℕ) × (unescaped raw ≡ Some given) × (new ≡ old ++ given)
+Unescapes raw old new false = unescaped raw ≡ None

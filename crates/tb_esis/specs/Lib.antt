@@ -1,6 +1,11 @@
--- The relation of reading first, then words of the private clauses, and what the calls answer.
-pub mod Elements
+-- What lines are, how they are read as a tree, and which fault they have; then words of private
+-- clauses, and what the calls answer.
+pub mod Escapes
 pub mod Lines
-pub mod Spelled
+pub mod Reading
+pub mod Faults
+pub mod Machine
+pub mod Escaped
+pub mod Readers
 pub mod Written
 pub mod Calls

@@ -1,15 +1,16 @@
 -- The parts of a script of the first form are found exactly where they are spelled.
-use Rattle.std.proofs.Common.{◌≡◌, ℕ, ◌≤◌, true, IsTrue, List, [], ◌∷◌, ◌++◌, length, Option, Some, None, codes, refl, sym, ap, ap₂, ◌∙◌, subst, arith, nat_le, append_assoc, length-append}
+use Rattle.std.proofs.Common.{◌≡◌, ℕ, ◌≤◌, true, ◌&&◌, IsTrue, List, [], ◌∷◌, ◌++◌, length, Option, Some, None, codes, refl, sym, ap, ap₂, ◌∙◌, subst, arith, nat_le, append_assoc, length-append}
 use Rattle.std.specs.Str.{bytes_eq}
-use Rattle.std.proofs.lemmas.Bool.{le-leb, leb-true}
+use Rattle.std.proofs.lemmas.Bool.{le-leb, leb-true, and_parts}
 use Rattle.tb_tree.specs.Plain.{Plain, Plains, no_kids, kid}
-use Rattle.tb_esis.proofs.BodyLaws.{reading-spells}
-use Rattle.tb_esis.proofs.SpelledLaws.{unique}
-use Rattle.tb_esis.specs.Elements.{IsReadAs}
+use Rattle.tb_esis.proofs.CompleteLaws.{read-clean, read-unique}
+use Rattle.tb_esis.specs.Reading.{IsReadAs}
+use Rattle.tb_esis.specs.Faults.{fault_of}
+use Rattle.tb_esis.specs.declared.fault.EsisFault.{EsisFault}
 use Rattle.tb_tree.proofs.Steps.{bind_some, kept}
 use Rattle.tb_top.specs.Names.{is_label, is_query_name}
 use Rattle.tb_top.specs.Cuts.{behind, before, last_line, label_at, name_at, query_of, script_of}
-use Rattle.tb_top.specs.FirstForm.{Script, IsScript, IsForm, query_line, script_text}
+use Rattle.tb_top.specs.FirstForm.{Script, is_body, IsScript, IsForm, query_line, script_text}
 use Rattle.tb_top.proofs.CutLaws.{behind-some, before-end, before-some, last_line-end, last_line-some, has_no_end, has_no_end-append, label-no_end, name-no_end, label_at-label, label_at-some, Stops, name_at-name, name_at-some, bytes_eq-is}
 
 blank_stops : Stops 32
@@ -53,6 +54,7 @@ script_of-text s is =
       cut,
       before-end (codes ".\nquery") s.body,
       query_of-line s.document s.first s.second is.document is.first is.second,
+      is.body,
       le-leb (length line) 65535 is.short,
     ) refl
 
@@ -104,7 +106,8 @@ script_of-some text s e =
     let f = bind_some (last_line d.0) _ s d.2 in
     let g = bind_some (before (codes ".\nquery") f.0.0) _ s f.2 in
     let h = bind_some (query_of f.0.1) _ s g.2 in
-    let end = kept (nat_le (length f.0.1) 65535) (record { name = b.0.0; body = g.0; document = h.0.0; first = h.0.1; second = h.0.2 }) s h.2 in
+    let end = kept (is_body g.0 && nat_le (length f.0.1) 65535) (record { name = b.0.0; body = g.0; document = h.0.0; first = h.0.1; second = h.0.2 }) s h.2 in
+    let tests = and_parts (is_body g.0) (nat_le (length f.0.1) 65535) end.0 in
     let labelled = label_at-some a.0 b.0.0 b.0.1 b.1 in
     let query = query_of-some f.0.1 h.0.0 h.0.1 h.0.2 h.1 in
     let lines : d.0 ≡ (g.0 ++ codes ".\nquery") ++ codes "\n" ++ query_line h.0.0 h.0.1 h.0.2 =
@@ -119,10 +122,11 @@ script_of-some text s e =
     let is : IsScript found =
     record {
       name = labelled.1;
+      body = tests.0;
       document = query.labelled;
       first = query.first_named;
       second = query.second_named;
-      short = subst (λ x. length x ≤ 65535) query.is (leb-true (length f.0.1) 65535 end.0);
+      short = subst (λ x. length x ≤ 65535) query.is (leb-true (length f.0.1) 65535 tests.1);
     } in
     (spelled ∙ ap script_text end.1, subst IsScript end.1 is)
 
@@ -132,13 +136,15 @@ no_script bytes none s tree form =
     let found : ◌≡◌ {A = Option Script} None (Some s) = none ∙ ap script_of form.spelled ∙ script_of-text s form.script in
     cc
 
--- Where the one script that is found has a body that is read as no tree, no form is spelled.
-pub no_tree : (bytes : List ℕ) (found : Script) → Some found ≡ script_of bytes → ((tree : Plain) → IsReadAs found.body tree → ⊥)
+-- Where the one script that is found has a body with a fault, no form is spelled.
+pub no_tree : (bytes : List ℕ) (found : Script) (fault : EsisFault) → Some found ≡ script_of bytes → fault_of found.body ≡ Some fault
     → (s : Script) (tree : Plain) → IsForm bytes s tree → ⊥
-no_tree bytes found is none s tree form =
+no_tree bytes found fault is wrong s tree form =
     let both : ◌≡◌ {A = Option Script} (Some found) (Some s) = is ∙ ap script_of form.spelled ∙ script_of-text s form.script in
     let same : found ≡ s = cc in
-    none tree (subst (λ (x : Script). IsReadAs x.body tree) (sym same) form.reading)
+    let none = (read-clean found.body tree (subst (λ (x : Script). IsReadAs x.body tree) (sym same) form.reading)).0 in
+    let d : ◌≡◌ {A = Option EsisFault} (Some fault) None = sym wrong ∙ none in
+    cc
 
 pub body-shorter : (bytes : List ℕ) (s : Script) → bytes ≡ script_text s → length s.body ≤ length bytes
 body-shorter bytes s is =
@@ -160,8 +166,4 @@ form-unique bytes s z tree other one two =
     let both : ◌≡◌ {A = Option Script} (Some s) (Some z) =
     sym (script_of-text s one.script) ∙ ap script_of (sym one.spelled ∙ two.spelled) ∙ script_of-text z two.script in
     let same : s ≡ z = cc in
-    let first = reading-spells s.body tree one.reading in
-    let second = reading-spells z.body other two.reading in
-    let spelled = sym first.bytes_are ∙ ap (λ (x : Script). x.body) same ∙ second.bytes_are in
-    let kids : ◌≡◌ {A = Plains} (kid tree no_kids) (kid other no_kids) = (unique (kid tree no_kids) (kid other no_kids) 512 512 [] [] first.body second.body spelled refl refl).0 in
-    (same, cc)
+    (same, read-unique z.body tree other (subst (λ (x : Script). IsReadAs x.body tree) same one.reading) two.reading)

@@ -1,10 +1,10 @@
 -- What the reader of scripts cuts from a text.
-use Rattle.std.specs.Prelude.{ℕ, ◌-◌, ◌||◌, ◌==◌, nat_lt, nat_le, if◌then◌else◌, List, [], ◌∷◌, length, take, drop, Option, Some, None, codes, suc}
+use Rattle.std.specs.Prelude.{ℕ, ◌-◌, ◌&&◌, ◌||◌, ◌==◌, nat_lt, nat_le, if◌then◌else◌, List, [], ◌∷◌, length, take, drop, Option, Some, None, codes, suc}
 use Rattle.std.specs.List.{prefix_len}
 use Rattle.tb_tree.specs.Steps.{◌>>=◌}
 use Rattle.std.specs.Str.{bytes_eq}
 use Rattle.tb_top.specs.Names.{is_label_byte, goes_on, begins_name}
-use Rattle.tb_top.specs.FirstForm.{Script}
+use Rattle.tb_top.specs.FirstForm.{is_body, Script}
 
 -- what stands behind the front, and what stands before the end
 abbrev pub behind : List ℕ → List ℕ → Option (List ℕ)
@@ -64,4 +64,4 @@ script_of text = do
   lines ← last_line rest
   body ← before (codes ".\nquery") lines.0
   query ← query_of lines.1
-  if nat_le (length lines.1) 65535 then Some (record { name = name.0; body = body; document = query.0; first = query.1; second = query.2 }) else None
+  if is_body body && nat_le (length lines.1) 65535 then Some (record { name = name.0; body = body; document = query.0; first = query.1; second = query.2 }) else None

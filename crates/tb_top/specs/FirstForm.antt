@@ -1,9 +1,11 @@
 -- Scripts of the first form: one session that loads one document, and then asks for the nodes of one
 -- name with those of another name below them.
-use Rattle.std.specs.Prelude.{◌≡◌, ℕ, ◌≤◌, List, ◌++◌, IsTrue, codes, length, Option, Some, None, if◌then◌else◌}
+use Rattle.std.specs.Prelude.{◌≡◌, ℕ, ◌≤◌, Bool, true, ◌&&◌, ◌||◌, ◌-◌, slice_index, not, ◌==◌, List, [], ◌∷◌, ◌++◌, IsTrue, codes, length, Option, Some, None, if◌then◌else◌}
+use Rattle.std.specs.List.{list_all}
 use Rattle.std.specs.Str.{bytes_eq}
 use Rattle.tb_tree.specs.Plain.{Plain}
-use Rattle.tb_esis.specs.Elements.{IsReadAs}
+use Rattle.tb_tree.specs.TextLines.{lines_in}
+use Rattle.tb_esis.specs.Reading.{IsReadAs}
 use Rattle.tb_top.specs.Names.{is_label, is_query_name}
 use Rattle.tb_top.specs.Answer.{answer_of, two_names}
 use Rattle.tb_top.specs.Transcript.{session_part, load_block, query_block, history_line, history_part}
@@ -30,9 +32,22 @@ abbrev pub script_text : Script → List ℕ
 script_text s =
     codes "session\nload " ++ (s.name ++ (codes "\n" ++ (script_lines s ++ codes "\n.\n")))
 
--- names are names, and the query line has at most 65,535 bytes
+-- the last byte, if there is one, ends a line
+abbrev pub is_ended : List ℕ → Bool
+is_ended body = length body == 0 || slice_index body (length body - 1) == 10
+
+-- not the line that ends a body
+abbrev pub is_inside : List ℕ → Bool
+is_inside line = not (bytes_eq line (codes "."))
+
+-- whole lines, none of which ends the body
+abbrev pub is_body : List ℕ → Bool
+is_body body = is_ended body && list_all is_inside (lines_in body)
+
+-- names are names, the body is one, and the query line has at most 65,535 bytes
 pub record IsScript (s : Script) : Type 0 where
   pub name : IsTrue (is_label s.name)
+  pub body : IsTrue (is_body s.body)
   pub document : IsTrue (is_label s.document)
   pub first : IsTrue (is_query_name s.first)
   pub second : IsTrue (is_query_name s.second)

@@ -1,7 +1,8 @@
 //! The commands, from words and bytes to a transcript and a status.
 
-ghost use Rattle.std.specs.Prelude.{◌≡◌, ◌↔◌, ◌≤◌, IsTrue, IfOk, length};
+ghost use Rattle.std.specs.Prelude.{◌≡◌, ◌≢◌, ◌↔◌, ◌≤◌, IsTrue, IfOk, OnOk, length};
 ghost use Rattle.std.specs.Option.{option_map};
+ghost use Rattle.tb_esis.specs.declared.fault.EsisFault.TheVariants.{NoMemory};
 ghost use Rattle.tb_top.specs.Calls.{IsSingle, Settled, Tells, Answers, Published};
 
 use crate::script::script_of;
@@ -10,7 +11,7 @@ use crate::transcript::transcript;
 use std::alloc::{AllocError, Global};
 use std::thread::Threads;
 use tb_edge::{Gate, ReadFault, Sink, Source, read_up_to, write_all};
-use tb_esis::read_plain;
+use tb_esis::{EsisFault, read_tree};
 use tb_label::Store;
 
 /// Bytes of input that are read at most.
@@ -75,12 +76,26 @@ fn answer(alloc: Global, bytes: &[u8]) -> Result<Option<Vec<u8>>, AllocError>
     let Some(script) = script_of(bytes) else {
         return Ok(None);
     };
-    let Some(tree) = read_plain(alloc, script.body)? else {
-        return Ok(None);
+    let tree = match read_tree(alloc, script.body) {
+        Ok(tree) => tree,
+        Err(fault) => {
+            pass_refusal(fault)?;
+            return Ok(None);
+        }
     };
     let store = Store::build(alloc, tree)?;
     let text = transcript(alloc, &script, &store)?;
     Ok(Some(text))
+}
+
+/// Want of memory goes on; a fault of the lines doesn't.
+fn pass_refusal(fault: EsisFault) -> Result<(), AllocError>
+    ensures { OnOk result (fault ≢ NoMemory) }
+{
+    match fault {
+        EsisFault::NoMemory => Err(AllocError),
+        _ => Ok(()),
+    }
 }
 
 /// Writes the line that goes with a status, which stays as it is where the sink fails.

@@ -1,10 +1,14 @@
 //! The cuts by which a script is read.
 
 ghost use Rattle.std.specs.Prelude.{◌≡◌, ◌≤◌, length};
-ghost use Rattle.std.specs.List.{prefix_len};
+ghost use Rattle.std.specs.List.{prefix_len, list_all};
 ghost use Rattle.std.specs.Option.{option_map};
 ghost use Rattle.tb_top.specs.Names.{is_letter, is_label_byte, starts_name, begins_name, goes_on};
+ghost use Rattle.tb_tree.specs.TextLines.{lines_in};
+ghost use Rattle.tb_top.specs.FirstForm.{is_ended, is_inside, is_body};
 ghost use Rattle.tb_top.specs.Cuts.{behind, before, last_line, label_at, run, name_at};
+
+use tb_tree::next_line;
 
 /// What stands behind the front.
 pub fn behind<'a>(front: &[u8], text: &'a [u8]) -> Option<&'a [u8]>
@@ -118,4 +122,33 @@ fn is_letter(byte: u8) -> bool
     ensures { result ≡ is_letter byte }
 {
     (b'A' <= byte && byte <= b'Z') || (b'a' <= byte && byte <= b'z')
+}
+
+/// Whether the bytes are whole lines, none of which is `.` alone.
+pub fn is_body(bytes: &[u8]) -> bool
+    ensures { result ≡ is_body bytes.now }
+{
+    is_ended(bytes) && are_inside(bytes)
+}
+
+fn is_ended(bytes: &[u8]) -> bool
+    ensures { result ≡ is_ended bytes.now }
+{
+    match bytes {
+        [.., last] => *last == b'\n',
+        [] => true,
+    }
+}
+
+fn are_inside(bytes: &[u8]) -> bool
+    ensures { result ≡ list_all is_inside (lines_in bytes.now) }
+{
+    let mut rest = bytes;
+    'lines: while let Some((line, behind)) = next_line(rest) {
+        if line == b".".as_slice() {
+            return false;
+        }
+        rest = behind;
+    }
+    true
 }

@@ -5,7 +5,7 @@ ghost use Rattle.std.specs.Option.{option_map};
 ghost use Rattle.tb_top.specs.Cuts.{script_of, query_of};
 ghost use Rattle.tb_top.specs.Parts.{parts_of};
 
-use crate::cuts::{before, behind, label_at, last_line, name_at};
+use crate::cuts::{before, behind, is_body, label_at, last_line, name_at};
 
 /// What a script of the first form names, and the lines of its document.
 #[derive(Clone, Copy, Debug)]
@@ -17,7 +17,7 @@ pub struct Script<'a> {
     pub second: &'a [u8],
 }
 
-/// The parts of a script, or `None` where the bytes aren't of the first form; its body is any lines.
+/// The parts of a script, or `None` where the bytes aren't of the first form.
 #[tactic(auto, unfolding(crate::specs::Cuts::script_of))]
 pub fn script_of(text: &[u8]) -> Option<Script<'_>>
     ensures { option_map parts_of result ≡ script_of text.now }
@@ -29,7 +29,7 @@ pub fn script_of(text: &[u8]) -> Option<Script<'_>>
     let (lines, query) = last_line(rest)?;
     let body = before(b".\nquery", lines)?;
     let (document, first, second) = query_of(query)?;
-    if query.len() > 65_535 {
+    if !is_body(body) || query.len() > 65_535 {
         return None;
     }
     Some(Script {

@@ -28,6 +28,12 @@ const ELSEWHERE_TRANSCRIPT: &[u8] =
 const NOT_ENDED: &[u8] =
     b"session\nload n\n(a\n(a\n(a\n)a\n)a\n.\nquery\nMATCH document(\"n\") (//- a (//- a))\n.\n";
 
+const WHOLE: &[u8] =
+    b"session\nload n\n?xml version=\"1.0\"\nAid CDATA 1\nAkind IMPLIED\n(a\n-x\\ny\r\n(a\n(a\n-\\#233;\n)a\n\n)a\n)a\nC\n.\nquery\nMATCH document(\"n\") (//- a (//- a))\n.\n";
+
+const ENDED_TWICE: &[u8] =
+    b"session\nload n\n(a\n)a\n.\n.\nquery\nMATCH document(\"n\") (//- a (//- a))\n.\n";
+
 // Bytes that a source gives at a call, and that a sink takes.
 const STEP: usize = 16;
 
@@ -65,7 +71,9 @@ fn each_row_has_its_status_and_its_bytes(rt: HostRuntime) -> Result<(), Fail> {
     let rows = [
         (single, NESTED, Status::Ok, NESTED_TRANSCRIPT),
         (single, ELSEWHERE, Status::Ok, ELSEWHERE_TRANSCRIPT),
+        (single, WHOLE, Status::Ok, NESTED_TRANSCRIPT),
         (single, NOT_ENDED, Status::NotBuilt, not_built),
+        (single, ENDED_TWICE, Status::NotBuilt, not_built),
         (single, b"", Status::NotBuilt, not_built),
         (&["run"], NESTED, Status::Words, words),
         (&["Single"], NESTED, Status::Words, words),

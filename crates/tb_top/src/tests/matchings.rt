@@ -4,7 +4,7 @@ use super::plain;
 use crate::matching::{Match, matches};
 use std::alloc::{AllocError, Global};
 use std::test::Fail;
-use tb_esis::read_plain;
+use tb_esis::{EsisFault, read_tree};
 use tb_label::Store;
 
 const NO_DOCUMENT: &str = "no document";
@@ -28,8 +28,10 @@ fn by_joins(
     if lines.len() > 1000 {
         return String::from_str(alloc, NO_DOCUMENT);
     }
-    let Some(tree) = read_plain(alloc, lines)? else {
-        return String::from_str(alloc, NO_DOCUMENT);
+    let tree = match read_tree(alloc, lines) {
+        Ok(tree) => tree,
+        Err(EsisFault::NoMemory) => return Err(AllocError),
+        Err(_) => return String::from_str(alloc, NO_DOCUMENT),
     };
     let store = Store::build(alloc, tree)?;
     let found = matches(alloc, &store, first, second)?;
@@ -45,8 +47,10 @@ fn by_recursion(
     if lines.len() > 1000 {
         return String::from_str(alloc, NO_DOCUMENT);
     }
-    let Some(tree) = read_plain(alloc, lines)? else {
-        return String::from_str(alloc, NO_DOCUMENT);
+    let tree = match read_tree(alloc, lines) {
+        Ok(tree) => tree,
+        Err(EsisFault::NoMemory) => return Err(AllocError),
+        Err(_) => return String::from_str(alloc, NO_DOCUMENT),
     };
     let found = plain::matches(alloc, tree.root(), first, second)?;
     shown(alloc, &found)
