@@ -1,0 +1,13 @@
+pub mod WorkedRows
+pub mod LineLaws
+pub mod BodyLaws
+pub mod MarkLaws
+pub mod EntryLaws
+pub mod RoundLaws
+pub mod WalkLaws
+pub mod WaiterLaws
+pub mod StuckLaws
+pub mod SoundLaws
+pub mod FormLaws
+pub mod BodyFitLaws
+pub mod EndLaws

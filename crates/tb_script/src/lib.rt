@@ -1,0 +1,28 @@
+//! Workload scripts: sessions with their commands, and the first fault of a script.
+//!
+//! Whoever runs a workload reads its script by this crate. `read_workload` gives the workload that
+//! the bytes are read as, or their first fault (its clause `read`), and a workload meets what later
+//! calls ask for (`runnable`).
+#![tactic(auto)]
+
+mod body;
+mod command;
+mod entry;
+mod fault;
+mod form;
+mod group;
+mod line;
+mod marks;
+mod reader;
+mod stuck;
+mod tally;
+mod turn;
+mod walk;
+mod workload;
+
+pub use command::{Command, Script, Workload};
+pub use fault::ScriptFault;
+pub use reader::read_workload;
+
+#[cfg(test)]
+mod tests;

@@ -1,0 +1,10 @@
+//! A command with its line.
+
+use crate::Command;
+
+/// A command and the number of its line, from 1.
+#[derive(Debug, Drop)]
+pub struct Turn {
+    pub line: u32,
+    pub command: Command,
+}
