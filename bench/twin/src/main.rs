@@ -13,8 +13,9 @@ use std::os::fd::AsFd;
 use std::process::ExitCode;
 use std::time::Instant;
 use twin::join::{Axis, join_desc};
+use twin::reader::{next_line, read_tree};
 use twin::store::{Item, Store};
-use twin::{MOST_BYTES, Node, document, read_up_to_most};
+use twin::{MOST_BYTES, Node, read_up_to_most};
 
 /// What a script names, and the lines of its document.
 struct Script<'a> {
@@ -66,7 +67,7 @@ fn main() -> io::Result<ExitCode> {
 /// What the script is answered, or `None` where the bytes aren't of the form.
 fn transcript_of(bytes: &[u8], walk: bool, clock: &mut Clock) -> Option<Vec<u8>> {
     let script = script_of(bytes)?;
-    let root = document(script.body)?;
+    let root = read_tree(script.body).ok()?;
     clock.tell("tree");
     if walk {
         let mut matches = Vec::new();
@@ -109,7 +110,7 @@ fn joined(store: &Store, script: &Script, clock: &mut Clock) -> Vec<Match> {
         .collect()
 }
 
-/// The parts of a script, whose body is any lines.
+/// The parts of a script, whose body is any lines but `.`.
 fn script_of(text: &[u8]) -> Option<Script<'_>> {
     let (name, rest) = label_at(text.strip_prefix(b"session\nload ")?)?;
     let rest = rest.strip_prefix(b"\n")?.strip_suffix(b"\n.\n")?;
@@ -120,7 +121,20 @@ fn script_of(text: &[u8]) -> Option<Script<'_>> {
     let (first, rest) = name_at(rest.strip_prefix(b"\") (//- ")?)?;
     let (second, rest) = name_at(rest.strip_prefix(b" (//- ")?)?;
     let is_short = text.len() <= MOST_BYTES && query.len() <= 65_535;
-    (is_short && rest == b"))").then_some(Script { name, body, document, first, second })
+    let is_form = is_short && rest == b"))" && is_body(body);
+    is_form.then_some(Script { name, body, document, first, second })
+}
+
+/// Whether the bytes are whole lines, none of which is `.` alone.
+fn is_body(bytes: &[u8]) -> bool {
+    let mut rest = bytes;
+    while let Some((line, behind)) = next_line(rest) {
+        if line == b"." {
+            return false;
+        }
+        rest = behind;
+    }
+    bytes.is_empty() || bytes.ends_with(b"\n")
 }
 
 /// The name of a document at the front, and what follows.

@@ -1,7 +1,7 @@
 //! Stores as the proved program makes them: labels by one counter, and a list for each test.
 
 use crate::Node;
-use std::collections::HashMap;
+use std::collections::BTreeMap;
 
 #[derive(Clone, Copy)]
 pub struct Label {
@@ -27,9 +27,9 @@ struct Entry {
 
 #[derive(Default)]
 struct Lists {
-    elements: HashMap<Vec<u8>, Vec<Item>>,
+    elements: BTreeMap<Vec<u8>, Vec<Item>>,
     all_elements: Vec<Item>,
-    attrs: HashMap<Vec<u8>, Vec<Item>>,
+    attrs: BTreeMap<Vec<u8>, Vec<Item>>,
     all_attrs: Vec<Item>,
     texts: Vec<Item>,
 }
@@ -63,6 +63,14 @@ impl Store {
 
     pub fn elements(&self) -> &[Item] {
         &self.lists.all_elements
+    }
+
+    pub fn attributes(&self) -> &[Item] {
+        &self.lists.all_attrs
+    }
+
+    pub fn texts(&self) -> &[Item] {
+        &self.lists.texts
     }
 }
 
@@ -110,7 +118,7 @@ fn list(node: &Node, number: u32, entries: &[Entry], lists: &mut Lists) -> u32 {
     }
 }
 
-fn push(lists: &mut HashMap<Vec<u8>, Vec<Item>>, name: &[u8], item: Item) {
+fn push(lists: &mut BTreeMap<Vec<u8>, Vec<Item>>, name: &[u8], item: Item) {
     match lists.get_mut(name) {
         Some(list) => list.push(item),
         None => {
