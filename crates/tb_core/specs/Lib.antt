@@ -1,0 +1,2 @@
+-- The world of fronts.
+pub mod World
