@@ -1,2 +1,3 @@
 -- The world of fronts.
 pub mod World
+pub mod Replay

@@ -54,13 +54,23 @@ abbrev pub after_all : State → List Event → State
 after_all w [] = w
 after_all w (e ∷ es) = after_all (after w e) es
 
--- The conditions of an event: its session and its mark are below the counts, a mark is told once, and there
--- is room for a change.
+-- the session and the mark are below the counts
+abbrev pub IsNamed : ℕ → ℕ → Event → Type 0
+IsNamed sessions marks (Change session) = session < sessions
+IsNamed sessions marks (Look session) = session < sessions
+IsNamed sessions marks (Tell session mark) = (session < sessions) × (mark < marks)
+IsNamed sessions marks (Hear session mark) = (session < sessions) × (mark < marks)
+
+-- there is room for a change, and a mark is told once
+abbrev pub IsFree : State → Event → Type 0
+IsFree w (Change session) = length w.history < w.room
+IsFree w (Look session) = ⊤
+IsFree w (Tell session mark) = told_at w mark ≡ None
+IsFree w (Hear session mark) = ⊤
+
+-- the conditions of an event
 abbrev pub IsAllowed : State → Event → Type 0
-IsAllowed w (Change session) = (session < length w.seen) × (length w.history < w.room)
-IsAllowed w (Look session) = session < length w.seen
-IsAllowed w (Tell session mark) = (session < length w.seen) × (mark < length w.told) × (told_at w mark ≡ None)
-IsAllowed w (Hear session mark) = (session < length w.seen) × (mark < length w.told)
+IsAllowed w e = IsNamed (length w.seen) (length w.told) e × IsFree w e
 
 -- each event meets the conditions where it comes
 abbrev pub AreAllowed : State → List Event → Type 0

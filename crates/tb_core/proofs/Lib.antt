@@ -1,0 +1,2 @@
+-- Laws of the world of fronts.
+pub mod ReplayLaws
