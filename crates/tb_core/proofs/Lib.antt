@@ -1,2 +1,5 @@
 -- Laws of the world of fronts.
 pub mod ReplayLaws
+pub mod BoundLaws
+pub mod ChangeLaws
+pub mod FallLaws

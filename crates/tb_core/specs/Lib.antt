@@ -1,3 +1,4 @@
 -- The world of fronts.
 pub mod World
 pub mod Replay
+pub mod Answers
