@@ -3,3 +3,5 @@ pub mod ReplayLaws
 pub mod BoundLaws
 pub mod ChangeLaws
 pub mod FallLaws
+pub mod UnheardLaws
+pub mod WorkedRows

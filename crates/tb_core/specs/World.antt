@@ -44,6 +44,13 @@ after w (Look session) = with_seen w session (answer w (Look session))
 after w (Tell session mark) = record w { told = set w.told mark (answer w (Tell session mark)) }
 after w (Hear session mark) = with_seen w session (answer w (Hear session mark))
 
+-- the event hears a mark that nobody has told
+abbrev pub IsUnheard : State → Event → Type 0
+IsUnheard w (Change session) = ⊥
+IsUnheard w (Look session) = ⊥
+IsUnheard w (Tell session mark) = ⊥
+IsUnheard w (Hear session mark) = told_at w mark ≡ None
+
 -- the answers of events, one after the other
 abbrev pub run : State → List Event → List (Option ℕ)
 run w [] = []
