@@ -29,7 +29,7 @@ told_now (Look session) number mark earlier = earlier
 told_now (Tell session told) number mark earlier = if nat_eq told mark then Some number else earlier
 told_now (Hear session heard) number mark earlier = earlier
 
--- The three of events that have happened, the latest first.
+-- The next three ask of the events that have happened, the latest first.
 
 -- how many of them are changes
 abbrev pub changes : List Numbered → ℕ
@@ -53,7 +53,8 @@ number_after before (Look session) = Some (changes before)
 number_after before (Tell session mark) = Some (last_of before session)
 number_after before (Hear session mark) = option_map (λ front. max (last_of before session) front) (front_of before mark)
 
--- Each event has the number that the events before it say, and a session and a mark below the counts.
+-- After the events `before`, the latest first, each event of a list, the oldest first, has the number that those before
+-- it say; its session and its mark are below the counts.
 abbrev pub AreTrue : ℕ → ℕ → List Numbered → List Numbered → Type 0
 AreTrue sessions marks before [] = ⊤
 AreTrue sessions marks before (x ∷ xs) =
