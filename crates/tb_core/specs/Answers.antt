@@ -32,7 +32,8 @@ abbrev pub of_session : ℕ → List Event → List (Option ℕ) → List ℕ
 of_session session [] os = []
 of_session session (e ∷ es) [] = []
 of_session session (e ∷ es) (o ∷ os) =
-    if nat_eq (session_of e) session then with_number o (of_session session es os) else of_session session es os
+    if nat_eq (session_of e) session then with_number o (of_session session es os)
+    else of_session session es os
 
 -- no number is below the one before it, nor the first below this one
 abbrev pub NeverFalls : ℕ → List ℕ → Type 0

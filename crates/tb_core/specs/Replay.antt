@@ -39,7 +39,8 @@ changes (x ∷ before) = counted x.event (changes before)
 -- the last number of the session, or 0 where it has none
 abbrev pub last_of : List Numbered → ℕ → ℕ
 last_of [] session = 0
-last_of (x ∷ before) session = if nat_eq (session_of x.event) session then x.number else last_of before session
+last_of (x ∷ before) session =
+    if nat_eq (session_of x.event) session then x.number else last_of before session
 
 -- the front that the mark was told, or none
 abbrev pub front_of : List Numbered → ℕ → Option ℕ
@@ -51,11 +52,13 @@ abbrev pub number_after : List Numbered → Event → Option ℕ
 number_after before (Change session) = Some (changes before + 1)
 number_after before (Look session) = Some (changes before)
 number_after before (Tell session mark) = Some (last_of before session)
-number_after before (Hear session mark) = option_map (λ front. max (last_of before session) front) (front_of before mark)
+number_after before (Hear session mark) =
+    option_map (λ front. max (last_of before session) front) (front_of before mark)
 
--- After the events `before`, the latest first, each event of a list, the oldest first, has the number that those before
--- it say; its session and its mark are below the counts.
+-- After the events `before`, the latest first, each event of a list, the oldest first, has the number
+-- that those before it say; its session and its mark are below the counts.
 abbrev pub AreTrue : ℕ → ℕ → List Numbered → List Numbered → Type 0
 AreTrue sessions marks before [] = ⊤
 AreTrue sessions marks before (x ∷ xs) =
-    (number_after before x.event ≡ Some x.number) × IsNamed sessions marks x.event × AreTrue sessions marks (x ∷ before) xs
+    (number_after before x.event ≡ Some x.number) × IsNamed sessions marks x.event
+    × AreTrue sessions marks (x ∷ before) xs

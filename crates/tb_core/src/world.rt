@@ -31,8 +31,8 @@ impl Model for World {
 }
 
 impl World {
-    /// A world with these many sessions and marks, in which nothing has happened. The memory for `changes`
-    /// changes is reserved here, and no step asks for more.
+    /// A world with these many sessions and marks, in which nothing has happened. The memory for
+    /// `changes` changes is reserved here, and no step asks for more.
     pub fn new(alloc: Global, sessions: u32, marks: u32, changes: u32) -> Result<World, AllocError>
         ensures { IfOk result (λ w. w ≡ start sessions marks changes) }
     {
