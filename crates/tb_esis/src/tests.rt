@@ -12,7 +12,7 @@ use crate::{EsisFault, read_tree, write_nodes};
 use std::alloc::{AllocError, Global};
 use std::slice::from_ref;
 use std::test::Fail;
-use tb_tree::Tree;
+use tb_tree::{Tree, value};
 
 // Lines, and what the tree prints or the fault.
 const ESCAPES: &[(&[u8], &[u8])] = &[
@@ -202,5 +202,27 @@ fn elements_are_512_inside_each_other(rt: HostRuntime) -> Result<(), Fail> {
     assert_eq!(rt; same, most);
     let past = answered_nested(rt.alloc(), 513)?;
     assert_eq!(rt; past.as_slice(), b"TooDeep(513)".as_slice());
+    Ok(())
+}
+
+// The value of a copy of the root, or no byte where the lines have a fault.
+fn value_of_copy(alloc: Global, lines: &[u8]) -> Result<Vec<u8>, AllocError>
+    requires { length lines.now ≤ 67108864 }
+{
+    let Ok(tree) = read_tree(alloc, lines) else {
+        return Ok(Vec::new(alloc));
+    };
+    let copy = tree.root().copy(alloc)?;
+    let bytes = value(alloc, &copy)?;
+    Ok(bytes.into_vec())
+}
+
+#[test]
+fn an_element_has_the_value_of_its_texts(rt: HostRuntime) -> Result<(), Fail> {
+    let given = value_of_copy(
+        rt.alloc(),
+        b"Ax CDATA 1\n(a\n-a\\\\b\\nc\\|d\\|\n(b\n-\\012e\\#233;\\351\n)b\n)a",
+    )?;
+    assert_eq!(rt; given.as_slice(), b"a\\b\ncde\xc3\xa9\xe9".as_slice());
     Ok(())
 }
