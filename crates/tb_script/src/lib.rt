@@ -17,12 +17,14 @@ mod reader;
 mod stuck;
 mod tally;
 mod turn;
+mod turnstep;
 mod walk;
 mod workload;
 
 pub use command::{Command, Script, Workload};
 pub use fault::ScriptFault;
 pub use reader::read_workload;
+pub use turnstep::Turnstep;
 
 #[cfg(test)]
 mod tests;

@@ -1,0 +1,53 @@
+-- The order in which the rounds do the commands, and what that order keeps.
+use Rattle.std.specs.Prelude.{◌≡◌, ℕ, zero, suc, ◌+◌, Bool, true, false, if◌then◌else◌, List, [], ◌∷◌, ◌++◌, Option, map}
+use Rattle.std.specs.List.{slice_get}
+use Rattle.std.specs.Option.{option_to_list}
+use Rattle.std.proofs.Common.{get_or}
+use Rattle.tb_script.specs.Rounds.{is_among, can_go, once_done, told_behind, told_in_round, left_in_round, total, numbered}
+use Rattle.tb_script.specs.declared.command.Command.{Command}
+use Rattle.tb_script.specs.declared.command.Command.TheVariants.{Tell, Hear}
+use Rattle.tb_script.specs.declared.turn.Turn.{Turn}
+use Rattle.tb_script.specs.declared.turnstep.Turnstep.{Turnstep}
+
+-- the step of a session's turn, or none where its next command can't be done
+abbrev pub steps_behind : ℕ → List ℕ → List Turn → List Turnstep
+steps_behind session told [] = []
+steps_behind session told (t ∷ ts) =
+    if can_go told t.command then record { session = session; command = t.line } ∷ [] else []
+
+-- the steps of one round, from session to session, the first of which has this number
+abbrev pub steps_in_round : ℕ → List ℕ → List (List Turn) → List Turnstep
+steps_in_round session told [] = []
+steps_in_round session told (s ∷ ss) =
+    steps_behind session told s ++ steps_in_round (session + 1) (told_behind told s) ss
+
+-- the steps of so many rounds
+abbrev pub steps_by_rounds : ℕ → List ℕ → List (List Turn) → List Turnstep
+steps_by_rounds zero told ss = []
+steps_by_rounds (suc k) told ss =
+    steps_in_round 0 told ss ++ steps_by_rounds k (told_in_round told ss) (left_in_round told ss)
+
+-- The steps of all rounds: there are no more rounds in which something is done than commands.
+abbrev pub schedule_of : List (List Command) → List Turnstep
+schedule_of css = steps_by_rounds (total (map (numbered 0) css)) [] (map (numbered 0) css)
+
+-- the command of a step, or none where there is none of these numbers
+abbrev pub command_at : List (List Command) → Turnstep → Option Command
+command_at css step = slice_get (get_or css step.session []) step.command
+
+-- the commands of some steps
+abbrev pub commands_of_steps : List (List Command) → List Turnstep → List Command
+commands_of_steps css [] = []
+commands_of_steps css (step ∷ steps) =
+    option_to_list (command_at css step) ++ commands_of_steps css steps
+
+-- where these marks are told, that of a `hear` is, and that of a `tell` isn't yet
+abbrev pub MayGo : List ℕ → Command → Type 0
+MayGo told (Hear mark name) = is_among mark told ≡ true
+MayGo told (Tell mark name) = is_among mark told ≡ false
+MayGo told _ = Unit {0}
+
+-- each of the commands may go once those before it are done
+abbrev pub GoOn : List ℕ → List Command → Type 0
+GoOn told [] = Unit {0}
+GoOn told (c ∷ cs) = MayGo told c × GoOn (once_done told c) cs
