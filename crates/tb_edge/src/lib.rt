@@ -23,7 +23,7 @@ pub use mem_source::MemSource;
 pub use reading::{ReadFault, read_up_to};
 pub use sink::Sink;
 pub use source::Source;
-pub use writing::write_all;
+pub use writing::{write_all, write_pieces};
 
 #[cfg(test)]
 mod tests;
