@@ -1,6 +1,6 @@
 -- What the order of the rounds keeps: each step's command is there, a `hear` stands behind the `tell` of
 -- its mark, each session's commands stand in their order, and each stands once.
-use Rattle.std.proofs.Common.{◌≡◌, ℕ, zero, suc, ◌+◌, ◌<◌, ◌≤◌, Bool, true, false, ◌||◌, ◌==◌, cond, Option, Some, None, List, [], ◌∷◌, ◌++◌, map, length, get_or, set, drop, refl, sym, ap, ap₂, ◌∙◌, subst, arith, add-one, eq-eqb, eqb-true}
+use Rattle.std.proofs.Common.{◌≡◌, ℕ, zero, suc, ◌+◌, ◌<◌, ◌≤◌, Bool, true, false, ◌||◌, ◌==◌, cond, Option, Some, None, List, [], ◌∷◌, ◌++◌, map, length, get_or, set, drop, refl, sym, ap, ap₂, ◌∙◌, subst, arith, add-one, append-nil, eq-eqb, eqb-true}
 use Rattle.std.specs.List.{AllByRecursion, range_with_len, slice_get}
 use Rattle.std.specs.Prelude.{IsSome}
 use Rattle.std.specs.Option.{option_to_list}
@@ -286,3 +286,43 @@ schedule-goes_on css marks r = taken-on css [] (map (numbered 0) css) (schedule_
   where
     few : AreToldOnce [] (map (numbered 0) css)
     few m = omega (arith, plain_sums (tells m) css, tells-times_in m css, ap (times m) r.told, range-once m 0 marks)
+
+-- the numbers of what is left of a session
+abbrev lines_of : List Turn → List ℕ
+lines_of s = map (λ t. t.line) s
+
+taken-numbers : (session : ℕ) (told : List ℕ) (ss : List (List Turn)) (steps : List Turnstep) (more : List ℕ) (us : List (List Turn)) → Takes told ss steps more us
+    → lines_of (get_or ss session []) ≡ numbers_of session steps ++ lines_of (get_or us session [])
+taken-numbers session told ss [] more us p = ap (λ rs. lines_of (get_or rs session [])) (sym p.1)
+taken-numbers session told ss (step ∷ steps) more us p =
+    by (step.session == session) refl (taken-numbers session (once_done told (p.0).command) (set ss step.session p.1) steps more us p.3)
+  where
+    by : (b : Bool) → (step.session == session) ≡ b → lines_of (get_or (set ss step.session p.1) session []) ≡ numbers_of session steps ++ lines_of (get_or us session [])
+        → lines_of (get_or ss session []) ≡ cond b (step.command ∷ numbers_of session steps) (numbers_of session steps) ++ lines_of (get_or us session [])
+    by true e ih =
+        let here : get_or ss session [] ≡ p.0 ∷ p.1 = subst (λ k. get_or ss k [] ≡ p.0 ∷ p.1) (eqb-true step.session session e) (p.2).row in
+        let rest : get_or (set ss step.session p.1) session [] ≡ p.1 =
+        subst (λ k. get_or (set ss step.session p.1) k [] ≡ p.1) (eqb-true step.session session e) (get_or-set_same ss step.session p.1 [] (row-within ss step.session p.0 p.1 (p.2).row)) in
+        ap lines_of here ∙ ap₂ (λ n ns. n ∷ ns) (p.2).number (ap lines_of (sym rest) ∙ ih)
+    by false e ih = ap lines_of (sym (get_or-set_other ss step.session session p.1 [] (apart step.session session e))) ∙ ih
+
+numbered-lines : (n : ℕ) (cs : List Command) → lines_of (numbered n cs) ≡ range_with_len n (length cs)
+numbered-lines n [] = refl
+numbered-lines n (c ∷ cs) = ap (λ ns. n ∷ ns) (numbered-lines (n + 1) cs)
+
+through-row : (us : List (List Turn)) (session : ℕ) → AreThrough (map (map (λ t. t.command)) us) → lines_of (get_or us session []) ≡ []
+through-row [] session e = ap lines_of (get_or_past [] session [] (omega arith))
+through-row ([] ∷ us) zero e = refl
+through-row ((t ∷ ts) ∷ us) zero e = absurd (let d : ◌≡◌ {A = List Command} (t.command ∷ map (λ (u : Turn). u.command) ts) [] = e.0 in cc)
+through-row (u ∷ us) (suc session) e = through-row us session e.1
+
+-- Each session's commands stand in their order, each once.
+pub schedule-keeps : (css : List (List Command)) (marks : ℕ) → AreRunnable css marks → (session : ℕ) → numbers_of session (schedule_of css) ≡ range_with_len 0 (length (get_or css session []))
+schedule-keeps css marks r session =
+    let all = taken-numbers session [] (map (numbered 0) css) (schedule_of css) _ _ (schedule-taken css) in
+    let none = through-row (left_at_end (map (numbered 0) css)) session r.through in
+    sym (append-nil (numbers_of session (schedule_of css)))
+    ∙ ap (λ ns. numbers_of session (schedule_of css) ++ ns) (sym none)
+    ∙ sym all
+    ∙ ap lines_of (first-row css session)
+    ∙ numbered-lines 0 (get_or css session [])
