@@ -11,3 +11,5 @@ pub mod SoundLaws
 pub mod FormLaws
 pub mod BodyFitLaws
 pub mod EndLaws
+pub mod StepLaws
+pub mod ScheduleLaws

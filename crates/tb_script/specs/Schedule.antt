@@ -1,5 +1,5 @@
 -- The order in which the rounds do the commands, and what that order keeps.
-use Rattle.std.specs.Prelude.{◌≡◌, ℕ, zero, suc, ◌+◌, Bool, true, false, if◌then◌else◌, List, [], ◌∷◌, ◌++◌, Option, map}
+use Rattle.std.specs.Prelude.{◌≡◌, ℕ, zero, suc, ◌+◌, Bool, true, false, ◌==◌, if◌then◌else◌, List, [], ◌∷◌, ◌++◌, Option, map}
 use Rattle.std.specs.List.{slice_get}
 use Rattle.std.specs.Option.{option_to_list}
 use Rattle.std.proofs.Common.{get_or}
@@ -40,6 +40,13 @@ abbrev pub commands_of_steps : List (List Command) → List Turnstep → List Co
 commands_of_steps css [] = []
 commands_of_steps css (step ∷ steps) =
     option_to_list (command_at css step) ++ commands_of_steps css steps
+
+-- the numbers of a session's commands, in the order of the steps
+abbrev pub numbers_of : ℕ → List Turnstep → List ℕ
+numbers_of session [] = []
+numbers_of session (step ∷ steps) =
+    if step.session == session then step.command ∷ numbers_of session steps
+    else numbers_of session steps
 
 -- where these marks are told, that of a `hear` is, and that of a `tell` isn't yet
 abbrev pub MayGo : List ℕ → Command → Type 0
