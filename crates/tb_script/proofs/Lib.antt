@@ -13,3 +13,8 @@ pub mod BodyFitLaws
 pub mod EndLaws
 pub mod StepLaws
 pub mod ScheduleLaws
+pub mod SetLaws
+pub mod ComeLaws
+pub mod AwakeLaws
+pub mod VisitLaws
+pub mod BeginLaws

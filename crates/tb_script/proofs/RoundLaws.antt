@@ -206,7 +206,7 @@ fewer-turn told (t ∷ ts) = by (can_go told t.command)
     by true = omega arith
     by false = omega arith
 
-fewer-round : (told : List ℕ) (ss : List (List Turn)) → total (left_in_round told ss) ≤ total ss
+pub fewer-round : (told : List ℕ) (ss : List (List Turn)) → total (left_in_round told ss) ≤ total ss
 fewer-round told [] = omega arith
 fewer-round told (s ∷ ss) = omega (arith, fewer-turn told s, fewer-round (told_behind told s) ss)
 
@@ -240,7 +240,7 @@ stay : (k : ℕ) (told : List ℕ) (ss : List (List Turn)) → IsIdle told ss �
 stay zero told ss i = i.still
 stay (suc k) told ss i = rw (i.left, i.same) (stay k told ss i)
 
-rounds-still : (k : ℕ) (told : List ℕ) (ss : List (List Turn)) → total ss ≤ k → IsStill (told_by_rounds k told ss) (left_by_rounds k told ss)
+pub rounds-still : (k : ℕ) (told : List ℕ) (ss : List (List Turn)) → total ss ≤ k → IsStill (told_by_rounds k told ss) (left_by_rounds k told ss)
 rounds-still zero told ss e = none-still told ss (omega (arith, e))
 rounds-still (suc k) told ss e = by (nat_lt (total (left_in_round told ss)) (total ss)) refl (λ d. rounds-still k (told_in_round told ss) (left_in_round told ss) d)
   where

@@ -13,7 +13,7 @@ abbrev pub and_least : Option ℕ → Option ℕ → Option ℕ
 and_least None o = o
 and_least (Some n) o = lesser n o
 
-get_or-same : {X : Type 0} (n m : ℕ) (d : X) → get_or (replicate n d) m d ≡ d
+pub get_or-same : {X : Type 0} (n m : ℕ) (d : X) → get_or (replicate n d) m d ≡ d
 get_or-same zero m d = get_or_past [] m d (omega arith)
 get_or-same (suc n) zero d = refl
 get_or-same (suc n) (suc m) d = get_or-same n m d

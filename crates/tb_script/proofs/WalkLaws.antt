@@ -19,18 +19,18 @@ steps-at told [] at t ts within is can = absurd (omega (arith, within))
 steps-at told (s ∷ ss) zero t ts within is can = rw is (here t ts ss can)
 steps-at told (s ∷ ss) (suc at) t ts within is can = there s (steps-at told ss at t ts (omega (arith, within)) is can)
 
-total-at : (ss : List (List Turn)) (at : ℕ) (t : Turn) (ts : List Turn) → at < length ss → get_or ss at [] ≡ t ∷ ts → total (set ss at ts) + 1 ≡ total ss
+pub total-at : (ss : List (List Turn)) (at : ℕ) (t : Turn) (ts : List Turn) → at < length ss → get_or ss at [] ≡ t ∷ ts → total (set ss at ts) + 1 ≡ total ss
 total-at [] at t ts within is = absurd (omega (arith, within))
 total-at (s ∷ ss) zero t ts within is = let long = ap length is in omega (arith, long)
 total-at (s ∷ ss) (suc at) t ts within is = omega (arith, total-at ss at t ts (omega (arith, within)) is)
 
 module _ {X : Type 0} (P : X → Type 0) where
-  all-set : (xs : List X) (at : ℕ) (x : X) → AllByRecursion P xs → P x → AllByRecursion P (set xs at x)
+  pub all-set : (xs : List X) (at : ℕ) (x : X) → AllByRecursion P xs → P x → AllByRecursion P (set xs at x)
   all-set [] at x all p = all
   all-set (y ∷ ys) zero x all p = (p, all.1)
   all-set (y ∷ ys) (suc at) x all p = (all.0, all-set ys at x all.1 p)
 
-  all-at : (xs : List X) (at : ℕ) (d : X) → AllByRecursion P xs → P d → P (get_or xs at d)
+  pub all-at : (xs : List X) (at : ℕ) (d : X) → AllByRecursion P xs → P d → P (get_or xs at d)
   all-at [] at d all p = p
   all-at (y ∷ ys) zero d all p = all.0
   all-at (y ∷ ys) (suc at) d all p = all-at ys at d all.1 p
@@ -70,7 +70,7 @@ told-length told (Query text) = refl
 told-length told (Hear n name) = refl
 
 -- which marks are told once a command is done
-told-agrees : (told : List ℕ) (bits : List Bool) (c : Command) → HasMarkBelow (length bits) c → ((m : ℕ) → is_among m told ≡ get_or bits m false)
+pub told-agrees : (told : List ℕ) (bits : List Bool) (c : Command) → HasMarkBelow (length bits) c → ((m : ℕ) → is_among m told ≡ get_or bits m false)
     → (m : ℕ) → is_among m (once_done told c) ≡ get_or (told_with bits c) m false
 told-agrees told bits (Tell n name) below agrees m = by (n == m) refl
   where
@@ -175,7 +175,7 @@ pub ready-weight : (st : State) (at : ℕ) (list : List ℕ) → st.ready ≡ li
 ready-weight st at list is = omega (arith, ap length is, length-append list (at ∷ []))
 
 -- what is left, row by row
-still-from : (told : List ℕ) (ss : List (List Turn)) → ((at : ℕ) (t : Turn) (ts : List Turn) → get_or ss at [] ≡ t ∷ ts → can_go told t.command ≡ false) → IsStill told ss
+pub still-from : (told : List ℕ) (ss : List (List Turn)) → ((at : ℕ) (t : Turn) (ts : List Turn) → get_or ss at [] ≡ t ∷ ts → can_go told t.command ≡ false) → IsStill told ss
 still-from told [] rows = tt
 still-from told ([] ∷ ss) rows = still-from told ss (λ at t ts e. rows (suc at) t ts e)
 still-from told ((t ∷ ts) ∷ ss) rows = (rows zero t ts refl, still-from told ss (λ at u us e. rows (suc at) u us e))

@@ -10,6 +10,7 @@ pub mod Runnable
 pub mod Tallies
 pub mod Runs
 pub mod Walks
+pub mod Awake
 pub mod Cuts
 pub mod Groups
 pub mod Calls

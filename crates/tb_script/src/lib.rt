@@ -13,7 +13,10 @@ mod form;
 mod group;
 mod line;
 mod marks;
+mod order;
 mod reader;
+mod round;
+mod session_set;
 mod stuck;
 mod tally;
 mod turn;
@@ -23,6 +26,7 @@ mod workload;
 
 pub use command::{Command, Script, Workload};
 pub use fault::ScriptFault;
+pub use order::schedule;
 pub use reader::read_workload;
 pub use turnstep::Turnstep;
 

@@ -46,7 +46,7 @@ fn rests_of<'a>(alloc: Global, sessions: &'a [Vec<Turn>]) -> Result<Vec<&'a [Tur
     Ok(rests)
 }
 
-fn untold(alloc: Global, marks: u32) -> Result<Vec<bool>, AllocError>
+pub fn untold(alloc: Global, marks: u32) -> Result<Vec<bool>, AllocError>
     ensures { IfOk result (λ told. told.items ≡ replicate marks false) }
 {
     let mut told = Vec::new(alloc);
