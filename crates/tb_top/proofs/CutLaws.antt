@@ -1,4 +1,4 @@
--- A script is cut exactly where it is spelled.
+-- A query is cut exactly where it is spelled.
 use Rattle.std.proofs.Common.{◌≡◌, ℕ, ◌-◌, suc, Bool, true, false, ◌&&◌, ◌||◌, cond, not, IsTrue, List, [], ◌∷◌, ◌++◌, length, take, drop, Option, Some, None, refl, sym, ap, ap₂, ◌∙◌, subst, arith, ◌==◌, nat_lt, nat_le, eqb-true, length-append}
 use Rattle.std.specs.List.{prefix_len, list_all}
 use Rattle.std.specs.Str.{bytes_eq}
@@ -8,8 +8,9 @@ use Rattle.std.proofs.lemmas.Slice.Eq.{bytes_eq-Decides}
 use Rattle.std.proofs.lemmas.Bool.{and_parts, and_from, or_parts, false≢true, not-true, ne_eqb, le-ltb, lt-ltb, ltb-true, ltb-false, eqb-false, leb-true, le-leb}
 use Rattle.tb_tree.proofs.Steps.{guarded, kept, same_pair}
 use Rattle.tb_tree.proofs.Fronts.{prefix_len-stop, take-prefix_len}
-use Rattle.tb_top.specs.Names.{is_label, is_label_byte, is_query_name, starts_name, begins_name, goes_on, all_go_on}
-use Rattle.tb_top.specs.Cuts.{behind, before, cut_from, last_line, label_at, run, name_at}
+use Rattle.tb_script.specs.Forms.{is_label, is_label_byte}
+use Rattle.tb_top.specs.Names.{is_query_name, starts_name, begins_name, goes_on, all_go_on}
+use Rattle.tb_top.specs.Cuts.{behind, before, label_at, run, name_at}
 
 -- a text is itself
 pub bytes_eq-same : (text : List ℕ) → bytes_eq text text ≡ true
@@ -38,44 +39,15 @@ before-some end text rest e =
     let parts = kept (bytes_eq (drop n text) end) (take n text) rest e in
     sym (take-append-drop n text) ∙ ap₂ (λ a b. a ++ b) parts.1 (bytes_eq-is (drop n text) end parts.0)
 
--- no byte ends a line
-abbrev pub has_no_end : List ℕ → Bool
-has_no_end text = list_all (λ b. not (b == 10)) text
-
-pub last_line-none : (text : List ℕ) → has_no_end text ≡ true → last_line text ≡ None
-last_line-none [] h = refl
-last_line-none (b ∷ bs) h =
-    let parts = and_parts (not (b == 10)) (has_no_end bs) h in
-    rw (last_line-none bs parts.1, not-true (b == 10) parts.0) refl
-
-pub last_line-end : (front line : List ℕ) → has_no_end line ≡ true → last_line (front ++ 10 ∷ line) ≡ Some (front, line)
-last_line-end [] line h = rw (last_line-none line h) refl
-last_line-end (b ∷ front) line h = rw (last_line-end front line h) refl
-
-cut_later : (b : ℕ) (bs : List ℕ) (o : Option (List ℕ × List ℕ)) (front line : List ℕ)
-    → ((f l : List ℕ) → ◌≡◌ {A = Option (List ℕ × List ℕ)} o (Some (f, l)) → bs ≡ f ++ 10 ∷ l)
-    → ◌≡◌ {A = Option (List ℕ × List ℕ)} (cut_from b bs o) (Some (front, line)) → b ∷ bs ≡ front ++ 10 ∷ line
-cut_later b bs (Some cut) front line later e =
-    let same = same_pair (b ∷ cut.0) cut.1 front line e in
-    ap (λ t. b ∷ t) (later cut.0 cut.1 refl) ∙ ap₂ (λ f l. f ++ 10 ∷ l) same.0 same.1
-cut_later b bs None front line later e =
-    let parts = kept (b == 10) ([], bs) (front, line) e in
-    let same = same_pair [] bs front line (ap Some parts.1) in
-    ap₂ (λ c t. c ∷ t) (eqb-true b 10 parts.0) same.1 ∙ ap (λ f. f ++ 10 ∷ line) same.0
-
-pub last_line-some : (text front line : List ℕ) → ◌≡◌ {A = Option (List ℕ × List ℕ)} (last_line text) (Some (front, line)) → text ≡ front ++ 10 ∷ line
-last_line-some [] front line e = absurd (let d : ◌≡◌ {A = Option (List ℕ × List ℕ)} None (Some (front, line)) = e in cc)
-last_line-some (b ∷ bs) front line e = cut_later b bs (last_line bs) front line (λ f l h. last_line-some bs f l h) e
-
 -- a label at the front, where a byte follows that is none of its bytes
 pub label_at-label : (name : List ℕ) (b : ℕ) (rest : List ℕ) → IsTrue (is_label name) → is_label_byte b ≡ false
     → label_at (name ++ b ∷ rest) ≡ Some (name, b ∷ rest)
 label_at-label name b rest labelled stop =
-    let outer = and_parts (list_all is_label_byte name && nat_lt 0 (length name)) (nat_le (length name) 64) labelled in
-    let inner = and_parts (list_all is_label_byte name) (nat_lt 0 (length name)) outer.0 in
-    let len = prefix_len-stop is_label_byte name b rest inner.0 stop in
-    let long = ne_eqb (length name) 0 (λ e. omega (arith, e, ltb-true 0 (length name) inner.1)) in
-    let short = le-ltb 64 (length name) (leb-true (length name) 64 outer.1) in
+    let outer = and_parts (nat_le 1 (length name) && nat_le (length name) 64) (list_all is_label_byte name) labelled in
+    let inner = and_parts (nat_le 1 (length name)) (nat_le (length name) 64) outer.0 in
+    let len = prefix_len-stop is_label_byte name b rest outer.1 stop in
+    let long = ne_eqb (length name) 0 (λ e. omega (arith, e, leb-true 1 (length name) inner.0)) in
+    let short = le-ltb 64 (length name) (leb-true (length name) 64 inner.1) in
     rw (len, long, short, take_at name (b ∷ rest) (length name) refl, drop_at name (b ∷ rest) (length name) refl) refl
 
 pub label_at-some : (text name rest : List ℕ) → ◌≡◌ {A = Option (List ℕ × List ℕ)} (label_at text) (Some (name, rest)) → (text ≡ name ++ rest) × IsTrue (is_label name)
@@ -86,10 +58,10 @@ label_at-some text name rest e =
     let same = same_pair (take n text) (drop n text) name rest parts.1 in
     let len : length name ≡ n = sym (ap length same.0) ∙ length-prefix_len is_label_byte text in
     let all = subst (λ t. list_all is_label_byte t ≡ true) same.0 (take-prefix_len is_label_byte text) in
-    let some = lt-ltb 0 (length name) (omega (arith, len, eqb-false n 0 sizes.0)) in
+    let some = le-leb 1 (length name) (omega (arith, len, eqb-false n 0 sizes.0)) in
     let few = le-leb (length name) 64 (omega (arith, len, ltb-false 64 n sizes.1)) in (
       sym (take-append-drop n text) ∙ ap₂ (λ a b. a ++ b) same.0 same.1,
-      and_from (list_all is_label_byte name && nat_lt 0 (length name)) (nat_le (length name) 64) (and_from (list_all is_label_byte name) (nat_lt 0 (length name)) all some) few,
+      and_from (nat_le 1 (length name) && nat_le (length name) 64) (list_all is_label_byte name) (and_from (nat_le 1 (length name)) (nat_le (length name) 64) some few) all,
     )
 
 -- a byte that goes on with no name, whatever follows it
@@ -155,40 +127,3 @@ name_at-some text name rest e =
     let parts = kept (begins_name text) (take (run text) text, drop (run text) text) (name, rest) e in
     let same = same_pair (take (run text) text) (drop (run text) text) name rest (ap Some parts.1) in
     (sym (take-append-drop (run text) text) ∙ ap₂ (λ a b. a ++ b) same.0 same.1, subst (λ t. IsTrue (is_query_name t)) same.0 (run_named text parts.0))
-
--- A name has no line end.
-no_end : (test : ℕ → Bool) → test 10 ≡ false → (b : ℕ) → test b ≡ true → not (b == 10) ≡ true
-no_end test stop b passes = apart (b == 10) refl
-  where
-    apart : (same : Bool) → (b == 10) ≡ same → not same ≡ true
-    apart true e = absurd (false≢true (sym stop ∙ ap test (sym (eqb-true b 10 e)) ∙ passes))
-    apart false e = refl
-
-pub passed-no_end : (test : ℕ → Bool) → test 10 ≡ false → (name : List ℕ) → list_all test name ≡ true → has_no_end name ≡ true
-passed-no_end test stop [] all = refl
-passed-no_end test stop (b ∷ name) all =
-    let parts = and_parts (test b) (list_all test name) all in
-    and_from (not (b == 10)) (has_no_end name) (no_end test stop b parts.0) (passed-no_end test stop name parts.1)
-
-pub label-no_end : (name : List ℕ) → IsTrue (is_label name) → has_no_end name ≡ true
-label-no_end name labelled =
-    let outer = and_parts (list_all is_label_byte name && nat_lt 0 (length name)) (nat_le (length name) 64) labelled in
-    passed-no_end is_label_byte refl name (and_parts (list_all is_label_byte name) (nat_lt 0 (length name)) outer.0).0
-
-run-no_end : (name : List ℕ) → all_go_on name ≡ true → has_no_end name ≡ true
-run-no_end [] all = refl
-run-no_end (b ∷ name) all =
-    let parts = and_parts (goes_on b name) (all_go_on name) all in
-    and_from (not (b == 10)) (has_no_end name) (no_end (λ c. goes_on c name) refl b parts.0) (run-no_end name parts.1)
-
-pub name-no_end : (name : List ℕ) → IsTrue (is_query_name name) → has_no_end name ≡ true
-name-no_end [] named = refl
-name-no_end (b ∷ name) named =
-    let parts = and_parts (starts_name b) (all_go_on name) named in
-    and_from (not (b == 10)) (has_no_end name) (no_end starts_name refl b parts.0) (run-no_end name parts.1)
-
-pub has_no_end-append : (a b : List ℕ) → has_no_end a ≡ true → has_no_end b ≡ true → has_no_end (a ++ b) ≡ true
-has_no_end-append [] b p q = q
-has_no_end-append (c ∷ a) b p q =
-    let parts = and_parts (not (c == 10)) (has_no_end a) p in
-    and_from (not (c == 10)) (has_no_end (a ++ b)) parts.0 (has_no_end-append a b parts.1 q)

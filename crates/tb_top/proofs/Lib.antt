@@ -1,9 +1,15 @@
 pub mod Rows
 pub mod CutLaws
-pub mod ScriptLaws
+pub mod QueryLaws
 pub mod PairLaws
 pub mod JoinedLaws
 pub mod WitnessLaws
 pub mod NameLaws
 pub mod PieceLaws
-pub mod Completeness
+pub mod RunningLaws
+pub mod DoneLaws
+pub mod HistoryLaws
+pub mod ReadyLaws
+pub mod CheckLaws
+pub mod BuiltLaws
+pub mod SettledLaws

@@ -1,15 +1,14 @@
 -- Worked rows of the definitions, computed.
 use Rattle.std.proofs.Common.{◌≡◌, ℕ, true, false, List, [], ◌∷◌, ◌++◌, map, replicate, length, refl, codes}
 use Rattle.std.specs.List.{flat_map}
-use Rattle.std.specs.Fmt.{digits}
 use Rattle.tb_tree.specs.Plain.{Plain, elem, attr, text, no_kids, kid}
 use Rattle.tb_tree.specs.Printed.{printed_node, escaped}
-use Rattle.tb_top.specs.Names.{is_query_name, is_label}
+use Rattle.tb_script.specs.Forms.{is_label}
+use Rattle.tb_top.specs.Names.{is_query_name}
 use Rattle.tb_tree.specs.declared.node_test.Test.TheVariants.{Name, AnyAttr, AnyText}
 use Rattle.tb_top.specs.Pattern.{Axis, Child, Descendant, Mark, One, Optional, Some, Any, Pattern, matching, Edges, no_edges, edge}
 use Rattle.tb_top.specs.Witness.{naive_witnesses, numbers_in}
 use Rattle.tb_top.specs.WitnessTree.{witness_tree}
-use Rattle.tb_top.specs.FirstForm.{Script, script_text, transcript_of}
 
 -- a pattern node with a name and edges alone
 abbrev named : List ℕ → Edges → Pattern
@@ -111,26 +110,6 @@ id_and_texts =
 
 pub written-joined : lines id_and_texts written ≡ codes "(witness\n(@id\n-7\n)@id\n-onetwo\n)witness\n"
 written-joined = refl
-
--- the transcript of the script that loads nested `a` as `n` and asks for `a` below `a`
-abbrev nested_script : List ℕ → Script
-nested_script document =
-    record { name = codes "n"; body = codes "(a\n(a\n(a\n)a\n)a\n)a\n"; document = document; first = codes "a"; second = codes "a" }
-
-pub nested-text : script_text (nested_script (codes "n"))
-    ≡ codes "session\nload n\n(a\n(a\n(a\n)a\n)a\n)a\n.\nquery\nMATCH document(\"n\") (//- a (//- a))\n.\n"
-nested-text = refl
-
-pub nested-transcript : transcript_of (nested_script (codes "n")) nested
-    ≡ codes "session 1\n1 load n at 1\n2 query front 1 trees 3\n(witness\n(a\n(a\n)a\n)a\n)witness\n(witness\n(a\n(a\n)a\n)a\n)witness\n(witness\n(a\n(a\n)a\n)a\n)witness\n.\nend\nhistory 1\n1 session 1 change 1 load n\nok\n"
-unfolding digits
-nested-transcript = refl
-
--- a name without a document has no witness
-pub nested-elsewhere : transcript_of (nested_script (codes "q")) nested
-    ≡ codes "session 1\n1 load n at 1\n2 query front 1 trees 0\n.\nend\nhistory 1\n1 session 1 change 1 load n\nok\n"
-unfolding digits
-nested-elsewhere = refl
 
 -- names of queries: a colon belongs to one only where a byte that may begin a name follows
 pub names-of_queries : map is_query_name (codes "a" ∷ codes "_-.9" ∷ codes "a:b" ∷ (195 ∷ 169 ∷ []) ∷ []) ≡ true ∷ true ∷ true ∷ true ∷ []

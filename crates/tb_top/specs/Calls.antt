@@ -1,11 +1,20 @@
 -- What the commands promise, by how they end.
-use Rattle.std.specs.Prelude.{◌≡◌, ℕ, ◌≤◌, ◌⊎◌, List, [], ◌∷◌, length, map, codes, Option, Some, None, String, string_bytes}
+use Rattle.std.specs.Prelude.{◌≡◌, ℕ, ◌≤◌, ◌⊎◌, List, length, codes, Option, Some, String}
 use Rattle.std.specs.Io.KnownBytes.{Keeps, Appends, Consumes, IsAtEnd}
 use Rattle.std.specs.declared.alloc.Global.{Global}
-use Rattle.tb_tree.specs.Plain.{Plain}
 use Rattle.tb_edge.specs.Faults.{HasRisen}
 use Rattle.tb_edge.specs.Calls.{LostAtMost, GrewByPart}
-use Rattle.tb_top.specs.FirstForm.{Script, IsForm, transcript_of}
+use Rattle.tb_script.specs.Calls.{IsReadAs, script_fault}
+use Rattle.tb_script.specs.Runnable.{commands_in}
+use Rattle.tb_script.specs.declared.command.Workload.{Workload}
+use Rattle.tb_script.specs.declared.fault.ScriptFault.{ScriptFault}
+use Rattle.tb_script.specs.declared.fault.ScriptFault.TheVariants.{InputTooLong}
+use Rattle.tb_top.specs.FaultText.{script_line}
+use Rattle.tb_top.specs.Single.{AreBuilt, IsTranscript}
+use Rattle.tb_top.specs.Check.{check_of}
+use Rattle.tb_top.specs.Tasks.{Spells, SpellsNone}
+use Rattle.tb_top.specs.declared.task.Task.{Task}
+use Rattle.tb_top.specs.declared.task.Task.TheVariants as task
 use Rattle.tb_top.specs.declared.status.Status.{Status}
 use Rattle.tb_top.specs.declared.status.Status.TheVariants as status
 
@@ -23,10 +32,6 @@ pub record SinkMoved : Type 0 where
   pub held_after : Option (List ℕ)
   pub faults : ℕ
   pub faults_after : ℕ
-
--- the words are `single` alone
-abbrev pub IsSingle : List (String Global) → Type 0
-IsSingle words = map string_bytes words ≡ codes "single" ∷ []
 
 -- a count of faults rose
 pub record HasFailed (faults faults_after : ℕ) : Type 0 where
@@ -81,39 +86,41 @@ Published sink text status.Ok = Wrote sink text
 Published sink text status.WriteFault = WrotePart sink text
 Published sink text _ = ⊥
 
--- the bytes aren't of the first form
-abbrev pub IsNoForm : List ℕ → Type 0
-IsNoForm bytes = (s : Script) (tree : Plain) → IsForm bytes s tree → ⊥
+-- What a command prints of a script: `single` the transcript, `check` the refusals and the counts.
+abbrev pub IsOutput : Task → Workload → List ℕ → Type 0
+IsOutput task.Single w text = IsTranscript w text
+IsOutput task.Check w text = text ≡ check_of (commands_in w)
 
--- the bytes are of the first form, and this holds of the transcript of it
-abbrev pub Answered : (List ℕ → Type 0) → List ℕ → Type 0
-Answered P bytes = (s : Script) × (tree : Plain) × IsForm bytes s tree × P (transcript_of s tree)
+-- the input is read as a script whose queries are built, and this holds of what the command prints
+abbrev pub ReadBuilt : Task → SourceMoved → (List ℕ → Type 0) → Type 0
+ReadBuilt t source P =
+    (bytes : List ℕ) × (w : Workload) × (text : List ℕ)
+    × (ReadAll source bytes × IsReadAs bytes w × AreBuilt w × IsOutput t w text × P text)
 
--- the transcript, or none where the bytes aren't of the first form
-abbrev pub Answers : List ℕ → Option (List ℕ) → Type 0
-Answers bytes (Some text) = Answered (λ t. text ≡ t) bytes
-Answers bytes None = IsNoForm bytes
+-- the input is read as a script that has a query which isn't built
+abbrev pub ReadUnbuilt : SourceMoved → Type 0
+ReadUnbuilt source =
+    (bytes : List ℕ) × (w : Workload) × (ReadAll source bytes × IsReadAs bytes w × (AreBuilt w → ⊥))
 
--- the input isn't of the first form, or is too long
-abbrev pub ReadNoForm : SourceMoved → Type 0
-ReadNoForm source =
-    (bytes : List ℕ) × (ReadTooMuch source bytes ⊎ (ReadAll source bytes × IsNoForm bytes))
+-- the input has that first fault, or byte 67,108,865 was read
+abbrev pub ReadFaulty : SourceMoved → ScriptFault → Type 0
+ReadFaulty source fault =
+    (bytes : List ℕ)
+    × ((ReadTooMuch source bytes × (fault ≡ InputTooLong)) ⊎ (ReadAll source bytes × (script_fault bytes ≡ Some fault)))
 
--- the input is of the first form, and this holds of the transcript of it
-abbrev pub ReadForm : SourceMoved → (List ℕ → Type 0) → Type 0
-ReadForm source P = (bytes : List ℕ) × ReadAll source bytes × Answered P bytes
+-- What `settle` promises with a command's word, by its status.
+abbrev pub SettledBy : Task → SourceMoved → SinkMoved → Status → Type 0
+SettledBy t source sink status.Ok = ReadBuilt t source (Wrote sink)
+SettledBy t source sink status.Words = ⊥
+SettledBy t source sink status.ReadFault = ReadFailed source × Tells sink (codes "read-fault\n")
+SettledBy t source sink (status.Script fault) =
+    ReadFaulty source fault × Tells sink (script_line fault)
+SettledBy t source sink status.WriteFault = ReadBuilt t source (WrotePart sink)
+SettledBy t source sink status.Memory = ReadSome source × Tells sink (codes "memory\n")
+SettledBy t source sink status.NotBuilt = ReadUnbuilt source × Tells sink (codes "not-built\n")
 
--- What `settle` promises with the word `single`, by its status.
-abbrev pub SettledSingle : SourceMoved → SinkMoved → Status → Type 0
-SettledSingle source sink status.Ok = ReadForm source (Wrote sink)
-SettledSingle source sink status.Words = ⊥
-SettledSingle source sink status.ReadFault = ReadFailed source × Tells sink (codes "read-fault\n")
-SettledSingle source sink status.WriteFault = ReadForm source (WrotePart sink)
-SettledSingle source sink status.Memory = ReadSome source × Tells sink (codes "memory\n")
-SettledSingle source sink status.NotBuilt = ReadNoForm source × Tells sink (codes "not-built\n")
-
--- What `settle` promises: with other words it reads nothing and says so.
+-- What `settle` promises: with the words of no command it reads nothing and says so.
 abbrev pub Settled : List (String Global) → SourceMoved → SinkMoved → Status → Type 0
 Settled words source sink status.Words =
-    (IsSingle words → ⊥) × ReadNothing source × Tells sink (codes "words\n")
-Settled words source sink result = IsSingle words × SettledSingle source sink result
+    SpellsNone words × ReadNothing source × Tells sink (codes "words\n")
+Settled words source sink result = (t : Task) × (Spells t words × SettledBy t source sink result)

@@ -1,10 +1,11 @@
--- What the reader of scripts cuts from a text.
+-- What the reader of queries cuts from a text.
 use Rattle.std.specs.Prelude.{ℕ, ◌-◌, ◌&&◌, ◌||◌, ◌==◌, nat_lt, nat_le, if◌then◌else◌, List, [], ◌∷◌, length, take, drop, Option, Some, None, codes, suc}
 use Rattle.std.specs.List.{prefix_len}
 use Rattle.tb_tree.specs.Steps.{◌>>=◌}
 use Rattle.std.specs.Str.{bytes_eq}
-use Rattle.tb_top.specs.Names.{is_label_byte, goes_on, begins_name}
-use Rattle.tb_top.specs.FirstForm.{is_body, Script}
+use Rattle.tb_script.specs.Forms.{is_label_byte}
+use Rattle.tb_top.specs.Names.{goes_on, begins_name}
+use Rattle.tb_top.specs.QueryText.{Query}
 
 -- what stands behind the front, and what stands before the end
 abbrev pub behind : List ℕ → List ℕ → Option (List ℕ)
@@ -16,16 +17,6 @@ before end text =
     if bytes_eq (drop (length text - length end) text) end
     then Some (take (length text - length end) text)
     else None
-
--- the cut at a later line end, or at this byte where it is the last line end
-abbrev pub cut_from : ℕ → List ℕ → Option (List ℕ × List ℕ) → Option (List ℕ × List ℕ)
-cut_from b bs (Some cut) = Some (b ∷ cut.0, cut.1)
-cut_from b bs None = if b == 10 then Some ([], bs) else None
-
--- what stands before the last line end, and what stands behind it
-abbrev pub last_line : List ℕ → Option (List ℕ × List ℕ)
-last_line [] = None
-last_line (b ∷ bs) = cut_from b bs (last_line bs)
 
 -- the name of a document at the front, and what follows
 abbrev pub label_at : List ℕ → Option (List ℕ × List ℕ)
@@ -54,14 +45,9 @@ query_of line = do
   second ← name_at rest
   if bytes_eq second.1 (codes "))") then Some (document.0, first.0, second.0) else None
 
--- the parts of a script of the first form
-unfoldable pub script_of : List ℕ → Option Script
-script_of text = do
-  rest ← behind (codes "session\nload ") text
-  name ← label_at rest
-  rest ← behind (codes "\n") name.1
-  rest ← before (codes "\n.\n") rest
-  lines ← last_line rest
-  body ← before (codes ".\nquery") lines.0
-  query ← query_of lines.1
-  if is_body body && nat_le (length lines.1) 65535 then Some (record { name = name.0; body = body; document = query.0; first = query.1; second = query.2 }) else None
+-- the query of a text
+unfoldable pub query_in : List ℕ → Option Query
+query_in text = do
+  line ← before (codes "\n") text
+  names ← query_of line
+  if nat_le (length line) 65535 then Some (record { document = names.0; first = names.1; second = names.2 }) else None

@@ -1,15 +1,24 @@
--- Patterns and their witnesses, the transcript, scripts of the first form; then words of the private
--- clauses; and last what the commands promise.
+-- Patterns and their witnesses, queries, the history, what commands come to, the transcript, what
+-- `single` and `check` print; then words of private clauses; and last what the commands promise.
 pub mod Pattern
 pub mod Witness
 pub mod WitnessTree
 pub mod Answer
-pub mod Transcript
 pub mod Names
-pub mod FirstForm
+pub mod QueryText
+pub mod History
+pub mod Deeds
+pub mod FaultText
+pub mod Transcript
+pub mod Single
+pub mod Check
+pub mod Tasks
 pub mod Cuts
-pub mod Parts
+pub mod Queries
 pub mod Pairs
 pub mod Joined
+pub mod Running
+pub mod Pieces
 pub mod Status
 pub mod Calls
+pub mod Outcomes

@@ -1,6 +1,5 @@
--- Names in a script and in a query.
-use Rattle.std.specs.Prelude.{ℕ, Bool, true, false, ◌&&◌, ◌||◌, nat_lt, nat_le, ◌==◌, List, [], ◌∷◌, length}
-use Rattle.std.specs.List.{list_all}
+-- Names in a query.
+use Rattle.std.specs.Prelude.{ℕ, Bool, true, false, ◌&&◌, ◌||◌, nat_le, ◌==◌, List, [], ◌∷◌}
 
 -- a byte from one to another
 abbrev pub is_between : ℕ → ℕ → ℕ → Bool
@@ -9,14 +8,6 @@ is_between low high b = nat_le low b && nat_le b high
 -- `A` to `Z`, `a` to `z`
 abbrev pub is_letter : ℕ → Bool
 is_letter b = is_between 65 90 b || is_between 97 122 b
-
--- a letter, a digit, `_`, `-` or `.`
-abbrev pub is_label_byte : ℕ → Bool
-is_label_byte b = is_letter b || is_between 48 57 b || b == 95 || b == 45 || b == 46
-
--- the name of a document: 1 to 64 such bytes
-abbrev pub is_label : List ℕ → Bool
-is_label name = list_all is_label_byte name && nat_lt 0 (length name) && nat_le (length name) 64
 
 -- a byte that a name in a query begins with: a letter, `_`, or one of 128 and more
 abbrev pub starts_name : ℕ → Bool

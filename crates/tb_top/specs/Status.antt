@@ -7,6 +7,7 @@ abbrev pub code_of : Status → ℕ
 code_of status.Ok = 0
 code_of status.Words = 2
 code_of status.ReadFault = 3
+code_of (status.Script fault) = 4
 code_of status.WriteFault = 5
 code_of status.Memory = 6
 code_of status.NotBuilt = 9

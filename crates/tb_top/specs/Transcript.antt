@@ -1,31 +1,79 @@
--- The lines of a transcript.
-use Rattle.std.specs.Prelude.{ℕ, List, ◌++◌, codes, decimal}
+-- The text of a transcript.
+use Rattle.std.specs.Prelude.{ℕ, ◌+◌, ◌==◌, List, [], ◌∷◌, ◌++◌, codes, decimal, length}
+use Rattle.std.specs.List.{flat_map, filter, range_with_len}
+use Rattle.tb_esis.specs.declared.fault.EsisFault.{EsisFault}
+use Rattle.tb_script.specs.declared.command.Command.{Command}
+use Rattle.tb_script.specs.declared.command.Command.TheVariants.{Load, Query, Tell, Hear}
 use Rattle.tb_top.specs.Answer.{Answer}
+use Rattle.tb_top.specs.FaultText.{esis_fault_text}
+use Rattle.tb_top.specs.History.{Change}
+use Rattle.tb_top.specs.Deeds.{Record, loaded, refused, answered, told, heard, Deed, history_of}
 
--- a session's part: its number, a block for each command, and its end
-abbrev pub session_part : ℕ → List ℕ → List ℕ
-session_part number blocks = codes "session " ++ decimal number ++ codes "\n" ++ blocks ++ codes "end\n"
-
--- command `number` loaded a document, as that change of the history
-abbrev pub load_block : ℕ → List ℕ → ℕ → List ℕ
-load_block number name change =
+-- `I load NAME at K`: command I loaded a document, as change K of the history
+abbrev pub load_line : ℕ → List ℕ → ℕ → List ℕ
+load_line number name change =
     decimal number ++ codes " load " ++ name ++ codes " at " ++ decimal change ++ codes "\n"
 
--- command `number` was answered over the first `front` changes, by so many trees
+-- `I load refused FAULT L`: its body has that fault
+abbrev pub refused_line : ℕ → EsisFault → List ℕ
+refused_line number fault =
+    decimal number ++ codes " load refused " ++ esis_fault_text fault ++ codes "\n"
+
+-- `I query front K trees T`: command I was answered over the first K changes, by T trees
 abbrev pub answered_line : ℕ → ℕ → ℕ → List ℕ
 answered_line number front trees =
     decimal number ++ codes " query front " ++ decimal front ++ codes " trees " ++ decimal trees ++ codes "\n"
 
--- the block of a query: that line, the answer's lines, and a line `.`
+-- `I tell MARK front K` and `I hear MARK front K`: the session had seen, or has then seen, K changes
+abbrev pub told_line : ℕ → List ℕ → ℕ → List ℕ
+told_line number name front =
+    decimal number ++ codes " tell " ++ name ++ codes " front " ++ decimal front ++ codes "\n"
+
+abbrev pub heard_line : ℕ → List ℕ → ℕ → List ℕ
+heard_line number name front =
+    decimal number ++ codes " hear " ++ name ++ codes " front " ++ decimal front ++ codes "\n"
+
+-- the block of a query: its line, the answer's lines, and a line `.`
 abbrev pub query_block : ℕ → ℕ → Answer → List ℕ
 query_block number front answer = answered_line number front answer.trees ++ answer.lines ++ codes ".\n"
 
--- a change of the history: its number, its session, its count in that session, and the document's name
-abbrev pub history_line : ℕ → ℕ → ℕ → List ℕ → List ℕ
-history_line number session change name =
-    decimal number ++ codes " session " ++ decimal session ++ codes " change " ++ decimal change ++ codes " load " ++ name
-    ++ codes "\n"
+-- the block of a command, numbered from 1 in its session, by what it came to
+abbrev pub block_of : ℕ → Command → Record → List ℕ
+block_of number (Load name lines) (loaded k tree) = load_line number name k
+block_of number (Load name lines) (refused fault) = refused_line number fault
+block_of number (Query text) (answered front answer) = query_block number front answer
+block_of number (Tell mark name) (told k) = told_line number name k
+block_of number (Hear mark name) (heard k) = heard_line number name k
+block_of number _ _ = []
 
--- the history: how many changes, and a line for each
-abbrev pub history_part : ℕ → List ℕ → List ℕ
-history_part changes lines = codes "history " ++ decimal changes ++ codes "\n" ++ lines ++ codes "ok\n"
+-- the blocks of a session, in the order in which its commands were done
+abbrev pub blocks_of : ℕ → List Deed → List ℕ
+blocks_of session ds =
+    flat_map (λ d. block_of (d.place + 1) d.command d.result) (filter (λ d. d.session == session) ds)
+
+-- `session N` and `end` around the blocks of the session, which is numbered from 1 here and from 0 else
+abbrev pub session_part : ℕ → List Deed → List ℕ
+session_part session ds =
+    codes "session " ++ decimal (session + 1) ++ codes "\n" ++ blocks_of session ds ++ codes "end\n"
+
+-- `K session S change C load NAME`: change K of the history is the load of that name, which is the
+-- C-th accepted one of session S
+abbrev pub history_line : ℕ → Change → List ℕ
+history_line number change =
+    decimal number ++ codes " session " ++ decimal (change.session + 1) ++ codes " change "
+    ++ decimal change.count ++ codes " load " ++ change.name ++ codes "\n"
+
+-- the lines of changes, the first of which has the number
+abbrev pub history_lines : ℕ → List Change → List ℕ
+history_lines number [] = []
+history_lines number (c ∷ cs) = history_line number c ++ history_lines (number + 1) cs
+
+-- `history H`, a line for each change, and `ok`
+abbrev pub history_part : List Change → List ℕ
+history_part history =
+    codes "history " ++ decimal (length history) ++ codes "\n" ++ history_lines 1 history ++ codes "ok\n"
+
+-- the transcript of so many sessions: a part for each, and the history
+abbrev pub transcript_of : ℕ → List Deed → List ℕ
+transcript_of sessions ds =
+    flat_map (λ session. session_part session ds) (range_with_len 0 sessions) ++ history_part (history_of ds)

@@ -1,14 +1,11 @@
-//! The cuts by which a script is read.
+//! The cuts by which a query is read.
 
 ghost use Rattle.std.specs.Prelude.{◌≡◌, ◌≤◌, length};
-ghost use Rattle.std.specs.List.{prefix_len, list_all};
+ghost use Rattle.std.specs.List.{prefix_len};
 ghost use Rattle.std.specs.Option.{option_map};
-ghost use Rattle.tb_top.specs.Names.{is_letter, is_label_byte, starts_name, begins_name, goes_on};
-ghost use Rattle.tb_tree.specs.TextLines.{lines_in};
-ghost use Rattle.tb_top.specs.FirstForm.{is_ended, is_inside, is_body};
-ghost use Rattle.tb_top.specs.Cuts.{behind, before, last_line, label_at, run, name_at};
-
-use tb_tree::next_line;
+ghost use Rattle.tb_script.specs.Forms.{is_label_byte};
+ghost use Rattle.tb_top.specs.Names.{is_letter, starts_name, begins_name, goes_on};
+ghost use Rattle.tb_top.specs.Cuts.{behind, before, label_at, run, name_at};
 
 /// What stands behind the front.
 pub fn behind<'a>(front: &[u8], text: &'a [u8]) -> Option<&'a [u8]>
@@ -22,18 +19,6 @@ pub fn before<'a>(end: &[u8], text: &'a [u8]) -> Option<&'a [u8]>
     ensures { option_map (λ rest. rest.now) result ≡ before end.now text.now }
 {
     text.strip_suffix(end)
-}
-
-/// What stands before the last line end, and what stands behind it.
-pub fn last_line(text: &[u8]) -> Option<(&[u8], &[u8])>
-    ensures { option_map (λ cut. (cut.0.now, cut.1.now)) result ≡ last_line text.now }
-{
-    'ends: for end in (0..text.len()).rev() {
-        if text[end] == b'\n' {
-            return Some((&text[..end], &text[end + 1..]));
-        }
-    }
-    None
 }
 
 /// The name of a document at the front, and what follows.
@@ -111,7 +96,8 @@ fn starts_name(byte: u8) -> bool
 fn is_label_byte(byte: u8) -> bool
     ensures { result ≡ is_label_byte byte }
 {
-    is_letter(byte)
+    (b'a' <= byte && byte <= b'z')
+        || (b'A' <= byte && byte <= b'Z')
         || (b'0' <= byte && byte <= b'9')
         || byte == b'_'
         || byte == b'-'
@@ -122,33 +108,4 @@ fn is_letter(byte: u8) -> bool
     ensures { result ≡ is_letter byte }
 {
     (b'A' <= byte && byte <= b'Z') || (b'a' <= byte && byte <= b'z')
-}
-
-/// Whether the bytes are whole lines, none of which is `.` alone.
-pub fn is_body(bytes: &[u8]) -> bool
-    ensures { result ≡ is_body bytes.now }
-{
-    is_ended(bytes) && are_inside(bytes)
-}
-
-fn is_ended(bytes: &[u8]) -> bool
-    ensures { result ≡ is_ended bytes.now }
-{
-    match bytes {
-        [.., last] => *last == b'\n',
-        [] => true,
-    }
-}
-
-fn are_inside(bytes: &[u8]) -> bool
-    ensures { result ≡ list_all is_inside (lines_in bytes.now) }
-{
-    let mut rest = bytes;
-    'lines: while let Some((line, behind)) = next_line(rest) {
-        if line == b".".as_slice() {
-            return false;
-        }
-        rest = behind;
-    }
-    true
 }

@@ -5,13 +5,22 @@
 //! definitions of patterns, naive witnesses, witness trees and transcripts in `specs/`.
 #![tactic(auto)]
 
+mod answering;
+mod check;
 mod commands;
+mod counts;
 mod cuts;
+mod fault_text;
+mod history;
 mod matching;
+mod outcome;
+mod pieces;
 mod printer;
-mod script;
+mod query;
+mod running;
+mod single;
 mod status;
-mod transcript;
+mod task;
 mod witness;
 
 pub use commands::settle;

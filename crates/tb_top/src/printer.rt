@@ -1,13 +1,18 @@
 //! The lines of a transcript.
 
-ghost use Rattle.std.specs.Prelude.{◌≡◌, ◌++◌, OnOk, IfOk, decimal, length};
+ghost use Rattle.std.specs.Prelude.{◌≡◌, ◌++◌, OnOk, decimal, codes};
 ghost use Rattle.std.specs.List.{flat_map};
 ghost use Rattle.tb_top.specs.Pairs.{answer_by};
-ghost use Rattle.tb_top.specs.Transcript.{load_block, answered_line, query_block, history_line};
+ghost use Rattle.tb_top.specs.Transcript.{load_line, refused_line, answered_line, query_block, history_line};
+ghost use Rattle.tb_top.specs.FaultText.{esis_fault_text};
+ghost use Rattle.tb_top.specs.Running.{change_in, begun, named_line};
 
+use crate::fault_text::{esis_fault_line, esis_fault_name};
+use crate::history::Change;
 use crate::matching::Match;
 use itoa::Buffer;
 use std::alloc::AllocError;
+use tb_esis::EsisFault;
 
 /// Appends a number in decimal.
 pub fn push_number(number: u64, text: &mut Vec<u8>) -> Result<(), AllocError>
@@ -17,29 +22,93 @@ pub fn push_number(number: u64, text: &mut Vec<u8>) -> Result<(), AllocError>
     text.extend_from_slice(buffer.format(number).as_bytes())
 }
 
-/// Appends the block of a load: command `number` loaded the document, as that change of the history.
-pub fn push_load_block(
-    number: u64,
-    name: &[u8],
-    change: u64,
-    text: &mut Vec<u8>,
-) -> Result<(), AllocError>
-    ensures { OnOk result (text.new.items ≡ text.old.items ++ load_block number name.now change) }
+/// Appends the line with which a session's part begins. Sessions are numbered from 0 here.
+pub fn push_session_line(session: u32, text: &mut Vec<u8>) -> Result<(), AllocError>
+    ensures { OnOk result (text.new.items ≡ text.old.items ++ begun session) }
 {
-    push_number(number, text)?;
-    text.extend_from_slice(b" load ")?;
-    text.extend_from_slice(name)?;
-    text.extend_from_slice(b" at ")?;
-    push_number(change, text)?;
+    text.extend_from_slice(b"session ")?;
+    push_number(u64::from(session) + 1, text)?;
     text.push(b'\n')?;
     Ok(())
+}
+
+/// Appends the line of a command that ends with a number of changes: its own number, its verb with a
+/// blank on both sides, a name, the word before the front with its blanks, and the front.
+fn push_named_line(
+    number: u64,
+    verb: &[u8],
+    name: &[u8],
+    word: &[u8],
+    front: u32,
+    text: &mut Vec<u8>,
+) -> Result<(), AllocError>
+    ensures { OnOk result (text.new.items ≡ text.old.items
+        ++ named_line number verb.now name.now word.now front) }
+{
+    push_number(number, text)?;
+    text.extend_from_slice(verb)?;
+    text.extend_from_slice(name)?;
+    text.extend_from_slice(word)?;
+    push_number(u64::from(front), text)?;
+    text.push(b'\n')?;
+    Ok(())
+}
+
+/// Appends the line of a load that was accepted as that change of the history.
+pub fn push_load_line(
+    number: u64,
+    name: &[u8],
+    change: u32,
+    text: &mut Vec<u8>,
+) -> Result<(), AllocError>
+    ensures { OnOk result (text.new.items ≡ text.old.items ++ load_line number name.now change) }
+{
+    push_named_line(number, b" load ", name, b" at ", change, text)
+}
+
+/// Appends the line of a `tell` or a `hear`.
+pub fn push_front_line(
+    number: u64,
+    verb: &[u8],
+    name: &[u8],
+    front: u32,
+    text: &mut Vec<u8>,
+) -> Result<(), AllocError>
+    ensures { OnOk result (text.new.items ≡ text.old.items
+        ++ named_line number verb.now name.now (codes " front ") front) }
+{
+    push_named_line(number, verb, name, b" front ", front, text)
+}
+
+/// Appends the line of a load whose body has the fault.
+pub fn push_refused_line(
+    number: u64,
+    fault: &EsisFault,
+    text: &mut Vec<u8>,
+) -> Result<(), AllocError>
+    ensures { OnOk result (text.new.items ≡ text.old.items ++ refused_line number fault.now) }
+{
+    push_number(number, text)?;
+    text.extend_from_slice(b" load refused ")?;
+    push_esis_fault(fault, text)?;
+    text.push(b'\n')?;
+    Ok(())
+}
+
+/// Appends a fault of a body and its line.
+pub fn push_esis_fault(fault: &EsisFault, text: &mut Vec<u8>) -> Result<(), AllocError>
+    ensures { OnOk result (text.new.items ≡ text.old.items ++ esis_fault_text fault.now) }
+{
+    text.extend_from_slice(esis_fault_name(fault))?;
+    text.push(b' ')?;
+    push_number(u64::from(esis_fault_line(fault)), text)
 }
 
 /// Appends the block of a query: command `number` was answered over the first `front` changes, by a
 /// witness for each match.
 pub fn push_query_block(
     number: u64,
-    front: u64,
+    front: u32,
     found: &[Match],
     witness: &[u8],
     text: &mut Vec<u8>,
@@ -54,7 +123,7 @@ pub fn push_query_block(
 
 fn push_answered_line(
     number: u64,
-    front: u64,
+    front: u32,
     trees: u64,
     text: &mut Vec<u8>,
 ) -> Result<(), AllocError>
@@ -62,7 +131,7 @@ fn push_answered_line(
 {
     push_number(number, text)?;
     text.extend_from_slice(b" query front ")?;
-    push_number(front, text)?;
+    push_number(u64::from(front), text)?;
     text.extend_from_slice(b" trees ")?;
     push_number(trees, text)?;
     text.push(b'\n')?;
@@ -78,24 +147,18 @@ fn push_witnesses(found: &[Match], witness: &[u8], text: &mut Vec<u8>) -> Result
     Ok(())
 }
 
-/// Appends a line of the history: its number, the session, its count in that session, and the document.
-pub fn push_history_line(
-    number: u64,
-    session: u64,
-    change: u64,
-    name: &[u8],
-    text: &mut Vec<u8>,
-) -> Result<(), AllocError>
+/// Appends the line of a change of the history.
+pub fn push_history_line(number: u64, change: &Change, text: &mut Vec<u8>) -> Result<(), AllocError>
     ensures { OnOk result
-        (text.new.items ≡ text.old.items ++ history_line number session change name.now) }
+        (text.new.items ≡ text.old.items ++ history_line number (change_in change.now)) }
 {
     push_number(number, text)?;
     text.extend_from_slice(b" session ")?;
-    push_number(session, text)?;
+    push_number(u64::from(change.session) + 1, text)?;
     text.extend_from_slice(b" change ")?;
-    push_number(change, text)?;
+    push_number(u64::from(change.count), text)?;
     text.extend_from_slice(b" load ")?;
-    text.extend_from_slice(name)?;
+    text.extend_from_slice(change.name.as_slice())?;
     text.push(b'\n')?;
     Ok(())
 }

@@ -2,8 +2,10 @@
 
 ghost use Rattle.std.specs.Prelude.{◌≡◌};
 
-/// How a command ended. The causes are tried in the order words, reading, form, writing; want of memory
-/// may come in place of any of them before the first byte is written.
+use tb_script::ScriptFault;
+
+/// How a command ended. The causes are tried in the order words, reading, script, queries that aren't
+/// built, writing; want of memory may come in place of any of them before the first byte is written.
 #[derive(Clone, Copy, Debug, PartialEq, Eq)]
 pub enum Status {
     /// The result is written.
@@ -12,11 +14,13 @@ pub enum Status {
     Words,
     /// The source failed.
     ReadFault,
+    /// The script has that fault; never `NoMemory`, which is `Memory`.
+    Script(ScriptFault),
     /// The sink failed while the result was written.
     WriteFault,
     /// There was no memory.
     Memory,
-    /// The input isn't of the form that is built.
+    /// The script has a query whose text isn't built.
     NotBuilt,
 }
 
@@ -31,6 +35,7 @@ impl Status {
             Status::Ok => 0,
             Status::Words => 2,
             Status::ReadFault => 3,
+            Status::Script(_) => 4,
             Status::WriteFault => 5,
             Status::Memory => 6,
             Status::NotBuilt => 9,

@@ -4,5 +4,5 @@ use Rattle.tb_top.proofs.printer.push_answered_line.Goals as goal
 
 pub returns : goal.returns
 returns c =
-    rw (c.in_ok-push.ensures.items, c.in_ok-push_number-3.ensures, c.in_ok-extend_from_slice-2.ensures.items, c.in_ok-push_number-2.ensures, c.in_ok-extend_from_slice.ensures.items, c.in_ok-push_number.ensures)
+    rw (c.in_ok-push.ensures.items, c.in_ok-push_number-3.ensures, c.in_ok-extend_from_slice-2.ensures.items, c.in_ok-push_number-2.ensures, c.from.ensures, c.in_ok-extend_from_slice.ensures.items, c.in_ok-push_number.ensures)
     (six_pieces c.args.text.now.items _ _ _ _ _ _)

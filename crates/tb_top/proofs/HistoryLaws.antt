@@ -1,0 +1,80 @@
+-- A history with one change more.
+use Rattle.std.proofs.Common.{◌≡◌, ℕ, ◌+◌, ◌≤◌, ◌==◌, Bool, true, false, cond, Option, Some, None, Global, List, [], ◌∷◌, ◌++◌, length, map, get_or, set, refl, sym, ap, ap₂, ◌∙◌, subst, arith, inl, inr, ◌⊎◌, eq-eqb, eqb-true, ◌<◌}
+use Rattle.std.specs.Option.{option_map}
+use Rattle.std.specs.BTreeMap.{BTreeMap, get, is_at}
+use Rattle.std.specs.declared.sync.Arc.{Arc}
+use Rattle.std.specs.Arc.{arc_value}
+use Rattle.std.specs.Cmp.Lexicographic.{slice_cmp}
+use Rattle.std.specs.Ordering.{nat_cmp}
+use Rattle.std.specs.Str.{bytes_eq}
+use Rattle.std.proofs.lemmas.Bool.{cases_eq, false_from_ne_true}
+use Rattle.std.proofs.lemmas.List.{get_or-set_same, get_or-set_other, length-set}
+use Rattle.std.proofs.lemmas.Map.Text.{is_eq-slice_cmp}
+use Rattle.tb_tree.specs.Plain.{Plain}
+use Rattle.tb_tree.specs.View.{plain_of}
+use Rattle.tb_tree.specs.declared.node.Node.{Node}
+use Rattle.tb_top.specs.History.{Change, count_of, or_earlier, document_in}
+
+abbrev Kept : Type 0
+Kept = Arc Node Global
+
+abbrev tree_of : Kept → Plain
+tree_of store = plain_of (arc_value store)
+
+later : (b : Bool) (tree : Plain) (found earlier : Option Plain) → or_earlier (cond b (Some tree) found) earlier ≡ cond b (Some tree) (or_earlier found earlier)
+later true tree found earlier = refl
+later false tree found earlier = refl
+
+-- the document of a name behind one change more
+pub document_in-more : (cs : List Change) (c : Change) (name : List ℕ) → document_in (cs ++ c ∷ []) name ≡ cond (bytes_eq c.name name) (Some c.tree) (document_in cs name)
+document_in-more [] c name = refl
+document_in-more (x ∷ cs) c name =
+    ap (λ o. or_earlier o (cond (bytes_eq x.name name) (Some x.tree) None)) (document_in-more cs c name) ∙ later (bytes_eq c.name name) c.tree (document_in cs name) _
+
+add_one : (mine own : Bool) (n : ℕ) → cond mine (n + cond own 1 0 + 1) (n + cond own 1 0) ≡ cond mine (n + 1) n + cond own 1 0
+add_one true true n = omega arith
+add_one true false n = omega arith
+add_one false own n = refl
+
+pub count_of-more : (session : ℕ) (cs : List Change) (c : Change) → count_of session (cs ++ c ∷ []) ≡ count_of session cs + cond (c.session == session) 1 0
+count_of-more session [] c = by (c.session == session)
+  where
+    by : (b : Bool) → cond b (0 + 1) 0 ≡ 0 + cond b 1 0
+    by true = refl
+    by false = refl
+count_of-more session (x ∷ cs) c =
+    ap (λ n. cond (x.session == session) (n + 1) n) (count_of-more session cs c) ∙ add_one (x.session == session) (c.session == session) (count_of session cs)
+
+pub count_of-few : (session : ℕ) (cs : List Change) → count_of session cs ≤ length cs
+count_of-few session [] = omega arith
+count_of-few session (x ∷ cs) = by (x.session == session) (count_of-few session cs)
+  where
+    by : (b : Bool) → count_of session cs ≤ length cs → cond b (count_of session cs + 1) (count_of session cs) ≤ length (x ∷ cs)
+    by true few = omega arith
+    by false few = omega arith
+
+-- the counts of all sessions behind one change more
+pub counts-more : (counts : List ℕ) (cs : List Change) (c : Change) → ((session : ℕ) → get_or counts session 0 ≡ count_of session cs) → c.session < length counts
+    → (session : ℕ) → get_or (set counts c.session (get_or counts c.session 0 + 1)) session 0 ≡ count_of session (cs ++ c ∷ [])
+counts-more counts cs c kept within session = by (cases_eq c.session session)
+  where
+    by : (c.session ≡ session) ⊎ (c.session ≡ session → ⊥) → get_or (set counts c.session (get_or counts c.session 0 + 1)) session 0 ≡ count_of session (cs ++ c ∷ [])
+    by (inl same) =
+        subst (λ s. get_or (set counts c.session (get_or counts c.session 0 + 1)) s 0 ≡ count_of s cs + 1) same
+        (get_or-set_same counts c.session (get_or counts c.session 0 + 1) 0 within ∙ ap (λ n. n + 1) (kept c.session))
+        ∙ sym (count_of-more session cs c ∙ ap (λ b. count_of session cs + cond b 1 0) (eq-eqb c.session session same))
+    by (inr other) =
+        get_or-set_other counts c.session session (get_or counts c.session 0 + 1) 0 (λ e. other (sym e)) ∙ kept session
+        ∙ sym (count_of-more session cs c ∙ ap (λ b. count_of session cs + cond b 1 0) (false_from_ne_true (c.session == session) (λ t. other (eqb-true c.session session t))) ∙ omega arith)
+
+-- the documents behind one change more
+pub latest-more : (m n : BTreeMap (List ℕ) Kept) (cs : List Change) (c : Change) (w : Kept) (key : List ℕ) → ((name : List ℕ) → option_map tree_of (get (slice_cmp nat_cmp) m name) ≡ document_in cs name)
+    → ((name : List ℕ) → get (slice_cmp nat_cmp) n name ≡ cond (is_at (slice_cmp nat_cmp key) name) (Some w) (get (slice_cmp nat_cmp) m name))
+    → key ≡ c.name → tree_of w ≡ c.tree → (name : List ℕ) → option_map tree_of (get (slice_cmp nat_cmp) n name) ≡ document_in (cs ++ c ∷ []) name
+latest-more m n cs c w key kept writes same tree name =
+    ap (option_map tree_of) (writes name) ∙ by (is_at (slice_cmp nat_cmp key) name) ∙ ap (λ b. cond b (Some c.tree) (document_in cs name)) (is_eq-slice_cmp key name ∙ ap (λ k. bytes_eq k name) same)
+    ∙ sym (document_in-more cs c name)
+  where
+    by : (b : Bool) → option_map tree_of (cond b (Some w) (get (slice_cmp nat_cmp) m name)) ≡ cond b (Some c.tree) (document_in cs name)
+    by true = ap Some tree
+    by false = kept name

@@ -1,0 +1,81 @@
+-- What the commands of a script come to.
+use Rattle.std.specs.Prelude.{◌≡◌, ℕ, ◌+◌, ◌≤◌, ◌==◌, List, [], ◌∷◌, ◌++◌, Some, length}
+use Rattle.std.specs.List.{flat_map, filter}
+use Rattle.tb_tree.specs.Plain.{Plain}
+use Rattle.tb_esis.specs.Reading.{IsReadAs}
+use Rattle.tb_esis.specs.Faults.{fault_of}
+use Rattle.tb_esis.specs.declared.fault.EsisFault.{EsisFault}
+use Rattle.tb_script.specs.declared.command.Command.{Command}
+use Rattle.tb_script.specs.declared.command.Command.TheVariants as command
+use Rattle.tb_core.specs.Replay.{Numbered}
+use Rattle.tb_core.specs.declared.event.Event.{Event}
+use Rattle.tb_core.specs.declared.event.Event.TheVariants as event
+use Rattle.tb_top.specs.Answer.{Answer, answer_of, two_names}
+use Rattle.tb_top.specs.QueryText.{Query, IsQuery}
+use Rattle.tb_top.specs.History.{Change, count_of, document_at}
+
+-- what a command came to
+pub data Record : Type 0 where
+  -- a load: it is that change of the history, and its body is read as the tree
+  loaded : ℕ → Plain → Record
+  -- a load: its body has the fault
+  refused : EsisFault → Record
+  -- a query: answered over the first changes, so many
+  answered : ℕ → Answer → Record
+  -- a `tell`: what its session had seen
+  told : ℕ → Record
+  -- a `hear`: what its session has then seen
+  heard : ℕ → Record
+
+-- a command of a session, both numbered from 0, and what it came to
+pub record Deed : Type 0 where
+  pub session : ℕ
+  pub place : ℕ
+  pub command : Command
+  pub result : Record
+
+abbrev pub numbered : Event → ℕ → List Numbered
+numbered e n = record { event = e; number = n } ∷ []
+
+-- the event of a command, with its number; a load that is refused has none
+abbrev pub event_of : ℕ → Command → Record → List Numbered
+event_of session (command.Load name lines) (loaded k tree) = numbered (event.Change session) k
+event_of session (command.Query text) (answered front answer) = numbered (event.Look session) front
+event_of session (command.Tell mark name) (told k) = numbered (event.Tell session mark) k
+event_of session (command.Hear mark name) (heard k) = numbered (event.Hear session mark) k
+event_of session _ _ = []
+
+abbrev pub events_of : List Deed → List Numbered
+events_of ds = flat_map (λ d. event_of d.session d.command d.result) ds
+
+-- the change that a command made, behind these
+abbrev pub change_by : List Change → ℕ → Command → Record → List Change
+change_by cs session (command.Load name lines) (loaded k tree) =
+    record { session = session; count = count_of session cs + 1; name = name; tree = tree } ∷ []
+change_by cs session _ _ = []
+
+-- the changes, these and those that the deeds made, in order
+abbrev pub changes_behind : List Change → List Deed → List Change
+changes_behind cs [] = cs
+changes_behind cs (d ∷ ds) = changes_behind (cs ++ change_by cs d.session d.command d.result) ds
+
+-- the history of the deeds
+abbrev pub history_of : List Deed → List Change
+history_of ds = changes_behind [] ds
+
+-- The answer of a query over the documents of a front.
+pub record IsAnswer (history : List Change) (text : List ℕ) (front : ℕ) (answer : Answer) : Type 0 where
+  pub query : Query
+  pub is : IsQuery text query
+  pub within : front ≤ length history
+  pub answer_is : answer ≡ answer_of (two_names query.first query.second) (document_at history front query.document)
+
+-- What a command may come to, where this is the history: a load is accepted with the tree that its
+-- body is read as, or refused with the first fault of it.
+abbrev pub IsResult : List Change → Command → Record → Type 0
+IsResult history (command.Load name lines) (loaded k tree) = IsReadAs lines tree
+IsResult history (command.Load name lines) (refused fault) = fault_of lines ≡ Some fault
+IsResult history (command.Query text) (answered front answer) = IsAnswer history text front answer
+IsResult history (command.Tell mark name) (told k) = Unit {0}
+IsResult history (command.Hear mark name) (heard k) = Unit {0}
+IsResult history _ _ = ⊥

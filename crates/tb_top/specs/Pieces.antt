@@ -1,0 +1,12 @@
+-- A text in pieces: words of private clauses.
+use Rattle.std.specs.Prelude.{ℕ, List, ◌++◌, map}
+use Rattle.std.specs.List.{flat_map}
+use Rattle.std.proofs.Common.{Vec, Global}
+use Rattle.tb_top.specs.declared.pieces.Pieces as code
+
+-- the pieces, one behind the other
+abbrev pub joined : List (Vec ℕ Global) → List ℕ
+joined pieces = flat_map (λ piece. piece.items) pieces
+
+abbrev pub text_in : code.Pieces → List ℕ
+text_in p = joined p.whole.items ++ p.last.items

@@ -1,0 +1,94 @@
+//! The transcript of a script whose commands are done one after the other.
+
+ghost use Rattle.std.specs.Prelude.{◌≡◌, ◌++◌, ◌<◌, ◌≤◌, IfOk, OnOk, Some, IsSome, length, map, codes};
+ghost use Rattle.std.specs.List.{flat_map};
+ghost use Rattle.tb_script.specs.Runnable.{IsRunnable, commands_in};
+ghost use Rattle.tb_script.specs.Schedule.{command_at};
+ghost use Rattle.tb_top.specs.Single.{AreBuilt, IsTranscript};
+ghost use Rattle.tb_top.specs.Transcript.{history_lines, history_part};
+ghost use Rattle.tb_top.specs.Pieces.{joined, text_in};
+ghost use Rattle.tb_top.specs.Running.{progress_of, change_in, ended};
+
+use crate::history::Change;
+use crate::pieces::Pieces;
+use crate::printer::{push_history_line, push_number};
+use crate::running::{Running, start};
+use std::alloc::{AllocError, Global};
+use tb_script::{Command, Turnstep, Workload, schedule};
+
+/// The transcript of a script, in pieces.
+pub fn transcript(alloc: Global, w: &Workload) -> Result<Vec<Vec<u8>>, AllocError>
+    requires runnable { IsRunnable w.now }
+    requires built { AreBuilt w.now }
+    ensures { IfOk result (λ pieces. IsTranscript w.now (joined pieces.items)) }
+{
+    let steps = schedule(alloc, w)?;
+    let mut running = start(alloc, w)?;
+    'steps: for step in &steps {
+        let command = command_at(w, *step);
+        running.act(*step, command)?;
+    }
+    let pieces = finish(alloc, running)?;
+    Ok(pieces)
+}
+
+/// The command of a step.
+fn command_at<'w>(w: &'w Workload, step: Turnstep) -> &'w Command
+    requires { IsSome (command_at (commands_in w.now) step) }
+    ensures { command_at (commands_in w.now) step ≡ Some result.now }
+{
+    let script = &w.sessions[step.session as usize];
+    &script.commands[step.command as usize]
+}
+
+/// The parts of the sessions and the history.
+fn finish(alloc: Global, running: Running) -> Result<Vec<Vec<u8>>, AllocError>
+    ensures { IfOk result (λ pieces. joined pieces.items ≡ ended (progress_of running)) }
+{
+    let Running { history, parts, .. } = running;
+    let mut pieces = Pieces::new(alloc);
+    add_parts(parts, &mut pieces)?;
+    pieces.add(history_text(alloc, &history.changes)?)?;
+    let pieces = pieces.all()?;
+    Ok(pieces)
+}
+
+/// Adds the parts of the sessions, each with its end.
+fn add_parts(parts: Vec<Vec<u8>>, pieces: &mut Pieces) -> Result<(), AllocError>
+    ensures { OnOk result (text_in pieces.new ≡ text_in pieces.old
+        ++ flat_map (λ part. part.items ++ codes "end\n") parts.items) }
+{
+    'parts: for part in parts {
+        pieces.add(part_ended(part)?)?;
+    }
+    Ok(())
+}
+
+fn part_ended(mut part: Vec<u8>) -> Result<Vec<u8>, AllocError>
+    ensures { IfOk result (λ whole. whole.items ≡ part.items ++ codes "end\n") }
+{
+    part.extend_from_slice(b"end\n")?;
+    Ok(part)
+}
+
+fn history_text(alloc: Global, changes: &[Change]) -> Result<Vec<u8>, AllocError>
+    ensures { IfOk result (λ text. text.items ≡ history_part (map change_in changes.now)) }
+{
+    let mut text = Vec::new(alloc);
+    text.extend_from_slice(b"history ")?;
+    push_number(changes.len() as u64, &mut text)?;
+    text.push(b'\n')?;
+    push_history_lines(changes, &mut text)?;
+    text.extend_from_slice(b"ok\n")?;
+    Ok(text)
+}
+
+fn push_history_lines(changes: &[Change], text: &mut Vec<u8>) -> Result<(), AllocError>
+    ensures { OnOk result
+        (text.new.items ≡ text.old.items ++ history_lines 1 (map change_in changes.now)) }
+{
+    'changes: for (place, change) in changes.iter().enumerate() {
+        push_history_line(place as u64 + 1, change, text)?;
+    }
+    Ok(())
+}
