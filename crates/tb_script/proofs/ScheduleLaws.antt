@@ -4,7 +4,6 @@ use Rattle.std.proofs.Common.{◌≡◌, ℕ, zero, suc, ◌+◌, ◌<◌, ◌�
 use Rattle.std.specs.List.{AllByRecursion, range_with_len, slice_get}
 use Rattle.std.specs.Prelude.{IsSome}
 use Rattle.std.specs.Option.{option_to_list}
-use Rattle.std.proofs.lemmas.Bool.{false≢true}
 use Rattle.std.proofs.lemmas.List.{get_or_past, get_or-set_same, get_or-set_other}
 use Rattle.tb_script.specs.Rounds.{is_among, can_go, once_done, total, left_at_end, numbered}
 use Rattle.tb_script.specs.Runnable.{AreThrough, AreRunnable, HasMarkBelow, loads_of, loads_in, tells_of, tells_in}

@@ -7,7 +7,7 @@ use Rattle.tb_script.specs.Rounds.{is_among, total, told_in_round, left_in_round
 use Rattle.tb_script.specs.Runnable.{HasMarkBelow}
 use Rattle.tb_script.specs.Schedule.{steps_in_round, steps_by_rounds, schedule_of}
 use Rattle.tb_script.specs.declared.command.Command.{Command}
-use Rattle.tb_script.specs.declared.command.Command.TheVariants.{Tell, Hear}
+use Rattle.tb_script.specs.declared.command.Command.TheVariants.{Hear}
 use Rattle.tb_script.specs.declared.turn.Turn.{Turn}
 use Rattle.tb_script.specs.declared.turnstep.Turnstep.{Turnstep}
 use Rattle.tb_script.specs.declared.session_set.SessionSet.{SessionSet}

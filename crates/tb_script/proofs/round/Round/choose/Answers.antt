@@ -1,5 +1,5 @@
-use Rattle.std.proofs.Common.{◌≡◌, ℕ, false, Option, Some, None, arith, refl, sym, ap, subst}
-use Rattle.tb_script.specs.Awake.{stand_of, holds, TakesFirst, Chooses}
+use Rattle.std.proofs.Common.{◌≡◌, ℕ, false, arith, refl, subst}
+use Rattle.tb_script.specs.Awake.{stand_of, holds, TakesFirst}
 use Rattle.tb_script.proofs.AwakeLaws.{first-chosen, round-chooses}
 use Rattle.tb_script.proofs.SetLaws.{size-less}
 use Rattle.tb_script.proofs.round.Round.choose.Goals as goal
