@@ -7,7 +7,7 @@ use Rattle.std.proofs.lemmas.Bool.{ltb-true, ltb-false}
 use Rattle.std.proofs.lemmas.List.{drop-set-lt, take-append-drop}
 use Rattle.tb_script.specs.Rounds.{can_go, once_done, told_in_round, left_in_round, total, left_by_rounds, numbered}
 use Rattle.tb_script.specs.Schedule.{steps_in_round, steps_by_rounds, schedule_of}
-use Rattle.tb_script.specs.Awake.{to_come}
+use Rattle.tb_script.specs.Stands.{to_come}
 use Rattle.tb_script.specs.declared.command.Command.{Command}
 use Rattle.tb_script.specs.declared.turn.Turn.{Turn}
 use Rattle.tb_script.specs.declared.turnstep.Turnstep.{Turnstep}

@@ -4,7 +4,7 @@ use Rattle.std.specs.Int.{bit_at, trailing_zeros}
 use Rattle.std.proofs.lemmas.Bool.{eqb-false, ltb-true, ltb-false}
 use Rattle.std.proofs.lemmas.Nat.{and_le_l}
 use Rattle.std.proofs.lemmas.Nat.Bits.{bit_at_and, bit_at_or, bit_at-lt, bit_at_ones, bit_at_above, bit_at_set_same, bit_at_set_other, bit_at_clear_same, bit_at_clear_other, bit_at_mask_inside, bit_at_mask_below, bit_at-trailing_zeros, ones_shl}
-use Rattle.tb_script.specs.Awake.{holds, TakesFirst, size_below, size}
+use Rattle.tb_script.specs.Sets.{holds, TakesFirst, size_below, size}
 use Rattle.tb_script.specs.declared.session_set.SessionSet.{SessionSet}
 
 -- whether a bit is set

@@ -4,7 +4,9 @@ use Rattle.std.proofs.lemmas.Bool.{false≢true, ltb-true, ltb-false, eqb-false}
 use Rattle.std.proofs.lemmas.List.{get_or-set_other}
 use Rattle.tb_script.specs.Rounds.{is_among, can_go, once_done, total}
 use Rattle.tb_script.specs.Schedule.{schedule_of}
-use Rattle.tb_script.specs.Awake.{holds, TakesFirst, Chooses, Stand, row_at, waiters_of, to_come, WaitsAt, Waits, WaitsIn, Follows}
+use Rattle.tb_script.specs.Sets.{holds, TakesFirst}
+use Rattle.tb_script.specs.Stands.{Stand, row_at, waiters_of, to_come, WaitsAt, Waits, WaitsIn, Follows}
+use Rattle.tb_script.specs.Visits.{Chooses}
 use Rattle.tb_script.specs.declared.command.Command.{Command}
 use Rattle.tb_script.specs.declared.command.Command.TheVariants.{Load, Query, Tell, Hear}
 use Rattle.tb_script.specs.declared.session_set.SessionSet.{SessionSet}

@@ -1,5 +1,5 @@
 use Rattle.std.proofs.Common.{true, false, sym, subst}
-use Rattle.tb_script.specs.Awake.{stand_of}
+use Rattle.tb_script.specs.Stands.{stand_of}
 use Rattle.tb_script.specs.declared.command.Command.TheVariants.{Hear}
 use Rattle.tb_script.proofs.WalkLaws.{on_ok, told-read}
 use Rattle.tb_script.proofs.VisitLaws.{MayDo, next-is, row-fits, goes-visits, tell-visits, stay-visits, nothing-visits}
