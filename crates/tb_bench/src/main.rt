@@ -1,7 +1,8 @@
 //! `tb_bench`: times the engine's calls one by one, for `bench/`.
 //!
 //! It reads a document on standard input, labels it, and joins its elements `part` with its elements `item`.
-//! With the word `script` it reads a script instead, and puts its commands in order. What it found goes to standard output, and how long each call took, in nanoseconds, to standard error.
+//! With the word `script` it reads a script instead, and puts its commands in order. What it found goes to
+//! standard output, and how long each call took, in nanoseconds, to standard error.
 #![tactic(auto)]
 
 ghost use Rattle.std.specs.Prelude.{◌≡◌, ◌^◌, ◌<◌, ◌≤◌, IfOk, IfSome};
