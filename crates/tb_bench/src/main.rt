@@ -1,7 +1,8 @@
 //! `tb_bench`: times the engine's calls one by one, for `bench/`.
 //!
 //! It reads a document on standard input, labels it, and joins its elements `part` with its elements `item`.
-//! What it found goes to standard output, and how long each call took, in nanoseconds, to standard error.
+//! With the word `script` it reads a script instead, and puts its commands in order. What it found goes to
+//! standard output, and how long each call took, in nanoseconds, to standard error.
 #![tactic(auto)]
 
 ghost use Rattle.std.specs.Prelude.{◌≡◌, ◌^◌, ◌<◌, ◌≤◌, IfOk, IfSome};
@@ -11,11 +12,11 @@ ghost use Rattle.tb_tree.specs.Numbers.{count};
 ghost use Rattle.tb_tree.specs.Levels.{levels};
 
 use std::alloc::{AllocError, Global};
-use std::io;
 use std::marker::Brand;
 use std::process::ExitCode;
 use std::sync::ledger::{Blank, Ledger};
 use std::time::Instant;
+use std::{env, io};
 use tb_edge::{HostSource, read_up_to};
 use tb_esis::read_tree;
 use tb_label::Store;
@@ -23,7 +24,11 @@ use tb_span::{Axis, Pair, Steps};
 use tb_stackjoin::join_desc;
 use tb_tree::{Bytes, Test, Tree, value};
 
-/// Bytes of a document at most.
+mod script;
+
+use script::time_script;
+
+/// Bytes of a document or a script at most.
 const MOST_INPUT: usize = 67_108_864;
 
 fn main(rt: HostRuntime) -> io::Result<ExitCode> {
@@ -32,6 +37,9 @@ fn main(rt: HostRuntime) -> io::Result<ExitCode> {
         eprintln!(rt; "no input")?;
         return Ok(ExitCode::FAILURE);
     };
+    if is_script_wanted(&rt)? {
+        return time_script(&rt, &lines);
+    }
     let Some(tree) = time_read(&rt, lines)? else {
         return Ok(ExitCode::FAILURE);
     };
@@ -41,6 +49,12 @@ fn main(rt: HostRuntime) -> io::Result<ExitCode> {
     time_join(&rt, &store, "descendant", Axis::Descendant)?;
     time_join(&rt, &store, "child", Axis::Child)?;
     Ok(ExitCode::SUCCESS)
+}
+
+/// Whether the first word is `script`.
+fn is_script_wanted(rt: &HostRuntime) -> io::Result<bool> {
+    let word = env::args(rt)?.nth(1);
+    Ok(word.is_some_and(|word| word.as_str() == "script"))
 }
 
 /// Reads the document of the lines, or says why there is none. The lines are freed.

@@ -5,9 +5,9 @@ use Rattle.std.proofs.lemmas.Bool.{ltb-true, ltb-false}
 use Rattle.std.proofs.lemmas.List.{get_or_past, length-map, length-replicate}
 use Rattle.tb_script.specs.Rounds.{numbered, total}
 use Rattle.tb_script.specs.Runnable.{AreRunnable, HasMarkBelow}
-use Rattle.tb_script.specs.Awake.{holds, Stand, row_at, Waits, WaitsIn, FitsAt, Fits, Follows, Begins, to_come}
+use Rattle.tb_script.specs.Sets.{holds}
+use Rattle.tb_script.specs.Stands.{Stand, Waits, WaitsIn, FitsAt, Begins, to_come}
 use Rattle.tb_script.specs.declared.command.Command.{Command}
-use Rattle.tb_script.specs.declared.turn.Turn.{Turn}
 use Rattle.tb_script.proofs.ComeLaws.{come-all}
 use Rattle.tb_script.proofs.StuckLaws.{get_or-same}
 

@@ -1,13 +1,13 @@
 -- The steps to come: a session that can't go on takes none of them, one that can takes the first, and the
 -- end of a round is the start of the next.
-use Rattle.std.proofs.Common.{◌≡◌, ◌⊎◌, inl, inr, ℕ, zero, suc, ◌+◌, ◌-◌, ◌<◌, ◌≤◌, Bool, true, false, nat_lt, cond, List, [], ◌∷◌, ◌++◌, map, length, get_or, set, take, drop, refl, sym, ap, ap₂, ◌∙◌, subst, arith, add-one, append-nil, append_assoc}
+use Rattle.std.proofs.Common.{◌≡◌, ℕ, zero, suc, ◌+◌, ◌-◌, ◌≤◌, Bool, true, false, nat_lt, List, [], ◌∷◌, ◌++◌, map, length, get_or, set, take, drop, refl, sym, ap, ap₂, ◌∙◌, arith, add-one, append-nil, append_assoc}
 use Rattle.std.proofs.Math.Seq.{drop-cons, take-suc, take-suc-set}
 use Rattle.std.proofs.Math.ListN.{drop_of_length-le}
 use Rattle.std.proofs.lemmas.Bool.{ltb-true, ltb-false}
-use Rattle.std.proofs.lemmas.List.{get_or_past, drop-set-lt, take-append-drop}
-use Rattle.tb_script.specs.Rounds.{can_go, once_done, told_behind, left_behind, told_in_round, left_in_round, total, left_by_rounds, numbered}
-use Rattle.tb_script.specs.Schedule.{steps_behind, steps_in_round, steps_by_rounds, schedule_of}
-use Rattle.tb_script.specs.Awake.{to_come}
+use Rattle.std.proofs.lemmas.List.{drop-set-lt, take-append-drop}
+use Rattle.tb_script.specs.Rounds.{can_go, once_done, told_in_round, left_in_round, total, left_by_rounds, numbered}
+use Rattle.tb_script.specs.Schedule.{steps_in_round, steps_by_rounds, schedule_of}
+use Rattle.tb_script.specs.Stands.{to_come}
 use Rattle.tb_script.specs.declared.command.Command.{Command}
 use Rattle.tb_script.specs.declared.turn.Turn.{Turn}
 use Rattle.tb_script.specs.declared.turnstep.Turnstep.{Turnstep}

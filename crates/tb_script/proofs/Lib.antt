@@ -15,6 +15,6 @@ pub mod StepLaws
 pub mod ScheduleLaws
 pub mod SetLaws
 pub mod ComeLaws
-pub mod AwakeLaws
+pub mod StandLaws
 pub mod VisitLaws
 pub mod BeginLaws

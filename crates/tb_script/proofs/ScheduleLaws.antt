@@ -1,10 +1,11 @@
 -- What the order of the rounds keeps: each step's command is there, a `hear` stands behind the `tell` of
 -- its mark, each session's commands stand in their order, and each stands once.
-use Rattle.std.proofs.Common.{◌≡◌, ℕ, zero, suc, ◌+◌, ◌<◌, ◌≤◌, Bool, true, false, ◌||◌, ◌==◌, cond, Option, Some, None, List, [], ◌∷◌, ◌++◌, map, length, get_or, set, drop, refl, sym, ap, ap₂, ◌∙◌, subst, arith, add-one, append-nil, eq-eqb, eqb-true}
+use Rattle.std.proofs.Common.{◌≡◌, ℕ, zero, suc, ◌+◌, ◌*◌, ◌<◌, ◌≤◌, nat_lt, Bool, true, false, ◌||◌, ◌==◌, cond, Option, Some, None, List, [], ◌∷◌, ◌++◌, map, length, get_or, set, drop, refl, sym, ap, ap₂, ◌∙◌, subst, arith, add-one, append-nil, eq-eqb, eqb-true}
 use Rattle.std.specs.List.{AllByRecursion, range_with_len, slice_get}
 use Rattle.std.specs.Prelude.{IsSome}
 use Rattle.std.specs.Option.{option_to_list}
-use Rattle.std.proofs.lemmas.Bool.{false≢true}
+use Rattle.std.proofs.lemmas.Bool.{false≢true, ltb-true, ltb-false}
+use Rattle.std.proofs.lemmas.Option.{slice_get_within}
 use Rattle.std.proofs.lemmas.List.{get_or_past, get_or-set_same, get_or-set_other}
 use Rattle.tb_script.specs.Rounds.{is_among, can_go, once_done, total, left_at_end, numbered}
 use Rattle.tb_script.specs.Runnable.{AreThrough, AreRunnable, HasMarkBelow, loads_of, loads_in, tells_of, tells_in}
@@ -111,6 +112,20 @@ taken-within css told ss (step ∷ steps) more us rests p =
 pub schedule-within : (css : List (List Command)) → AllByRecursion (λ step. IsSome (command_at css step)) (schedule_of css)
 schedule-within css = taken-within css [] (map (numbered 0) css) (schedule_of css) _ _ (first-rests css) (schedule-taken css)
 
+-- The numbers of a step whose command is there are those of a session and of one of its commands.
+pub step-places : (css : List (List Command)) (step : Turnstep) → IsSome (command_at css step) → (step.session < length css) × (step.command < length (get_or css step.session []))
+step-places css step there = by (command_at css step) refl there
+  where
+    session : (n : ℕ) → n < length (get_or css step.session []) → (b : Bool) → nat_lt step.session (length css) ≡ b → step.session < length css
+    session n within true e = ltb-true step.session (length css) e
+    session n within false e = absurd (omega (arith, within, ap length (get_or_past css step.session [] (ltb-false step.session (length css) e))))
+
+    by : (o : Option Command) → command_at css step ≡ o → IsSome o → (step.session < length css) × (step.command < length (get_or css step.session []))
+    by None e some = absurd (false≢true some)
+    by (Some c) e some =
+        let within = slice_get_within (get_or css step.session []) step.command c e in
+        (session step.command within (nat_lt step.session (length css)) refl, within)
+
 -- a sum over commands
 module _ (f : Command → ℕ) where
   abbrev pub sum_over : List Command → ℕ
@@ -181,6 +196,27 @@ loads-sum (c ∷ cs) = by c (loads-sum cs)
 loads-sums : (css : List (List Command)) → loads_in css ≡ sum_in load_once css
 loads-sums [] = refl
 loads-sums (cs ∷ css) = omega (arith, loads-sum cs, loads-sums css)
+
+-- how many commands some steps have
+steps-count : (css : List (List Command)) (steps : List Turnstep) → AllByRecursion (λ step. IsSome (command_at css step)) steps → sum_over (λ c. 1) (commands_of_steps css steps) ≡ length steps
+steps-count css [] all = refl
+steps-count css (step ∷ steps) all = by (command_at css step) all.0 (steps-count css steps all.1)
+  where
+    by : (o : Option Command) → IsSome o → sum_over (λ c. 1) (commands_of_steps css steps) ≡ length steps → sum_over (λ c. 1) (option_to_list o ++ commands_of_steps css steps) ≡ suc (length steps)
+    by None some ih = absurd (false≢true some)
+    by (Some c) some ih = omega (arith, ih)
+
+count-length : (cs : List Command) → sum_over (λ c. 1) cs ≡ length cs
+count-length [] = refl
+count-length (c ∷ cs) = omega (arith, count-length cs)
+
+count-few : (css : List (List Command)) → AllByRecursion (λ cs. length cs ≤ 10000) css → sum_in (λ c. 1) css ≤ 10000 * length css
+count-few [] few = omega arith
+count-few (cs ∷ css) few = omega (arith, few.0, count-length cs, count-few css few.1)
+
+-- There are at most 64 times 10,000 steps.
+pub schedule-few : (css : List (List Command)) (marks : ℕ) → AreRunnable css marks → length (schedule_of css) ≤ 640000
+schedule-few css marks r = omega (arith, steps-count css (schedule_of css) (schedule-within css), schedule-sum (λ c. 1) css marks r, count-few css r.commands_fit, r.sessions_fit)
 
 -- Each load is done once.
 pub schedule-loads : (css : List (List Command)) (marks : ℕ) → AreRunnable css marks → loads_of (commands_of_steps css (schedule_of css)) ≡ loads_in css

@@ -1,11 +1,12 @@
 -- A session that is looked at: it goes on, or tells a mark and goes on, or waits.
-use Rattle.std.proofs.Common.{◌≡◌, ◌⊎◌, inl, inr, ℕ, zero, suc, ◌+◌, ◌*◌, ◌^◌, ◌<◌, ◌≤◌, ◌==◌, ◌&&◌, ◌||◌, nat_lt, Bool, true, false, List, [], ◌∷◌, ◌++◌, length, get_or, set, refl, sym, ap, ◌∙◌, subst, arith, eqb-true, eq-eqb}
+use Rattle.std.proofs.Common.{◌≡◌, ◌⊎◌, inl, inr, ℕ, ◌+◌, ◌<◌, ◌≤◌, ◌==◌, ◌&&◌, ◌||◌, nat_lt, Bool, true, false, List, [], ◌∷◌, ◌++◌, length, get_or, set, refl, sym, ap, ◌∙◌, subst, arith, eqb-true, eq-eqb}
 use Rattle.std.specs.List.{AllByRecursion}
 use Rattle.std.proofs.lemmas.Bool.{false≢true, ltb-true, ltb-false}
 use Rattle.std.proofs.lemmas.List.{get_or-set_other, length-set}
-use Rattle.tb_script.specs.Rounds.{is_among, can_go, once_done, total, numbered}
-use Rattle.tb_script.specs.Runnable.{HasMarkBelow}
-use Rattle.tb_script.specs.Awake.{holds, Stand, row_at, waiters_of, WaitsAt, Waits, WaitsIn, FitsAt, Fits, weight, Follows, Goes, Tells, Stays, Visits}
+use Rattle.tb_script.specs.Rounds.{is_among, can_go, once_done, numbered}
+use Rattle.tb_script.specs.Sets.{holds}
+use Rattle.tb_script.specs.Stands.{Stand, row_at, waiters_of, WaitsAt, Waits, WaitsIn, FitsAt, Fits, weight}
+use Rattle.tb_script.specs.Visits.{Goes, Tells, Stays, Visits}
 use Rattle.tb_script.specs.declared.command.Command.{Command}
 use Rattle.tb_script.specs.declared.command.Command.TheVariants.{Load, Query, Tell, Hear}
 use Rattle.tb_script.specs.declared.session_set.SessionSet.{SessionSet}
@@ -13,7 +14,7 @@ use Rattle.tb_script.specs.declared.turn.Turn.{Turn}
 use Rattle.tb_script.proofs.SetLaws.{size-few}
 use Rattle.tb_script.proofs.StepLaws.{row-within}
 use Rattle.tb_script.proofs.WalkLaws.{all-set, all-at, apart, told-agrees, total-at}
-use Rattle.tb_script.proofs.AwakeLaws.{with_done, GoesOn, done-follows, nothing-follows, waits-follows, with_waiters, waiters-follow}
+use Rattle.tb_script.proofs.StandLaws.{with_done, GoesOn, done-follows, nothing-follows, waits-follows, with_waiters, waiters-follow}
 
 -- a command that tells nothing and can be done
 abbrev pub MayDo : List Bool → Command → Type 0

@@ -1,4 +1,5 @@
--- The lines of a script, what they say, their first fault, the sessions, the rounds, their order, and the call.
+-- The lines of a script, what they say, their first fault, the sessions, the rounds, their order, and
+-- the calls.
 pub mod Lines
 pub mod Forms
 pub mod Entries
@@ -10,7 +11,9 @@ pub mod Runnable
 pub mod Tallies
 pub mod Runs
 pub mod Walks
-pub mod Awake
+pub mod Sets
+pub mod Stands
+pub mod Visits
 pub mod Cuts
 pub mod Groups
 pub mod Calls

@@ -1,8 +1,10 @@
-//! Workload scripts: sessions with their commands, and the first fault of a script.
+//! Workload scripts: sessions with their commands, the first fault of a script, and the order in
+//! which the commands of a workload are done.
 //!
 //! Whoever runs a workload reads its script by this crate. `read_workload` gives the workload that
 //! the bytes are read as, or their first fault (its clause `read`), and a workload meets what later
-//! calls ask for (`runnable`).
+//! calls ask for (`runnable`). `schedule` gives the steps of the rounds in which its sessions take
+//! turns.
 #![tactic(auto)]
 
 mod body;

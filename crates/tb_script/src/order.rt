@@ -1,7 +1,7 @@
 //! The order in which the rounds do the commands.
 
 ghost use Rattle.std.specs.Prelude.{◌≡◌, IfOk, length, map};
-ghost use Rattle.tb_script.specs.Awake.{Begins, row_of, stand_of};
+ghost use Rattle.tb_script.specs.Stands.{Begins, row_of, stand_of};
 ghost use Rattle.tb_script.specs.Rounds.{numbered};
 ghost use Rattle.tb_script.specs.Runnable.{IsRunnable, commands_in};
 ghost use Rattle.tb_script.specs.Schedule.{schedule_of};
@@ -56,7 +56,7 @@ fn rests_of<'a>(alloc: Global, sessions: &'a [Script]) -> Result<Vec<Rest<'a>>, 
 fn no_waiters(alloc: Global, marks: u32) -> Result<Vec<SessionSet>, AllocError>
     ensures { IfOk result (λ waiters. length waiters.items ≡ marks) }
 {
-    let mut waiters = Vec::new(alloc);
+    let mut waiters = Vec::with_capacity(alloc, marks as usize)?;
     'marks: for _mark in 0..marks {
         waiters.push(SessionSet::none())?;
     }

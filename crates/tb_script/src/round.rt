@@ -2,7 +2,8 @@
 
 ghost use Rattle.std.specs.Prelude.{◌≡◌, ◌<◌, ℕ, List, OnOk, length};
 ghost use Rattle.std.specs.Option.{option_map};
-ghost use Rattle.tb_script.specs.Awake.{Fits, Follows, Goes, Tells, Stays, Visits, Chooses, IsNextAt, stand_of};
+ghost use Rattle.tb_script.specs.Stands.{Fits, Follows, stand_of};
+ghost use Rattle.tb_script.specs.Visits.{Goes, Tells, Stays, Visits, Chooses, IsNextAt};
 ghost use Rattle.tb_script.specs.Schedule.{schedule_of};
 ghost use Rattle.tb_script.specs.declared.command.Command.{Command};
 
@@ -65,8 +66,8 @@ impl<'a> Round<'a> {
         Ok(())
     }
 
-    /// Notes that a session tells a mark: who waits for it is looked at, in this round where its turn
-    /// is to come.
+    /// Notes that a session tells a mark. Who waits for it is looked at, in this round where its turn
+    /// is to come, else in the next.
     fn tell(&mut self, at: u32, mark: u32)
         requires small { at < 64 }
         requires within { mark < length self.old.told.items }

@@ -1,7 +1,7 @@
 //! Sets of sessions.
 
 ghost use Rattle.std.specs.Prelude.{◌≡◌, ◌<◌, ℕ, ◌||◌, ◌&&◌, ◌==◌, nat_lt, true, false};
-ghost use Rattle.tb_script.specs.Awake.{holds, TakesFirst};
+ghost use Rattle.tb_script.specs.Sets.{holds, TakesFirst};
 
 /// Some of the sessions: bit n stands for session n.
 #[derive(Clone, Copy, Debug)]

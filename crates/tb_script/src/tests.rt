@@ -196,3 +196,88 @@ fn bodies_are_kept_and_texts_end_their_lines_alike(rt: HostRuntime) -> Result<()
     assert_eq!(rt; (*heard, *n, *told, workload.marks), (1, 0, 1, 2));
     Ok(())
 }
+
+fn order_of(alloc: Global, script: &[u8]) -> Result<Vec<Turnstep>, Fail> {
+    match read_workload(alloc, script) {
+        Ok(workload) => Ok(schedule(alloc, &workload)?),
+        Err(_fault) => Err(Fail::from("a script with a fault")),
+    }
+}
+
+fn steps_of(alloc: Global, numbers: &[(u32, u32)]) -> Result<Vec<Turnstep>, AllocError> {
+    let mut steps = Vec::new(alloc);
+    for (session, command) in numbers {
+        steps.push(Turnstep {
+            session: *session,
+            command: *command,
+        })?;
+    }
+    Ok(steps)
+}
+
+#[test]
+fn sessions_do_their_commands_in_rounds(rt: HostRuntime) -> Result<(), Fail> {
+    let rows: [(&[u8], &[(u32, u32)]); 5] = [
+        (b"session\nsession\n", &[]),
+        (
+            b"session\nquery\n.\nquery\n.\nsession\nquery\n.\n",
+            &[(0, 0), (1, 0), (0, 1)],
+        ),
+        // The mark is told before the second session's turn in the second round, or behind it.
+        (
+            b"session\nload a\n.\ntell m\nsession\nhear m\nquery\n.\n",
+            &[(0, 0), (0, 1), (1, 0), (1, 1)],
+        ),
+        (
+            b"session\nhear m\nquery\n.\nsession\nload a\n.\ntell m\n",
+            &[(1, 0), (1, 1), (0, 0), (0, 1)],
+        ),
+        // Two wait for one mark, on both sides of the session that tells it.
+        (
+            b"session\nhear m\nsession\nquery\n.\ntell m\nquery\n.\nsession\nhear m\ntell n\nsession\nhear n\n",
+            &[(1, 0), (1, 1), (2, 0), (0, 0), (1, 2), (2, 1), (3, 0)],
+        ),
+    ];
+    for (script, numbers) in rows {
+        assert_eq!(rt;
+            order_of(rt.alloc(), script)?,
+            steps_of(rt.alloc(), numbers)?
+        );
+    }
+    Ok(())
+}
+
+// 64 sessions, each of which but the last hears a mark of the next one, and then tells its own.
+fn chain(alloc: Global) -> Result<Vec<u8>, AllocError> {
+    let names = b"abcdefghijklmnopqrstuvwxyzABCDEFGHIJKLMNOPQRSTUVWXYZ0123456789-_";
+    let mut script = Vec::new(alloc);
+    for (at, name) in names.iter().enumerate() {
+        script.extend_from_slice(b"session\n")?;
+        if let Some(next) = names.get(at + 1) {
+            script.extend_from_slice(&[b'h', b'e', b'a', b'r', b' ', *next, b'\n'])?;
+        }
+        script.extend_from_slice(&[b't', b'e', b'l', b'l', b' ', *name, b'\n'])?;
+    }
+    Ok(script)
+}
+
+#[test]
+fn a_chain_of_64_sessions_goes_from_the_last_to_the_first(rt: HostRuntime) -> Result<(), Fail> {
+    let mut steps = Vec::new(rt.alloc());
+    steps.push(Turnstep {
+        session: 63,
+        command: 0,
+    })?;
+    for session in (0..63).rev() {
+        steps.push(Turnstep {
+            session,
+            command: 0,
+        })?;
+        steps.push(Turnstep {
+            session,
+            command: 1,
+        })?;
+    }
+    assert_eq!(rt; order_of(rt.alloc(), &chain(rt.alloc())?)?, steps);
+    Ok(())
+}

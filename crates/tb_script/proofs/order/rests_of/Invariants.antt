@@ -1,5 +1,5 @@
 use Rattle.std.proofs.Common.{◌≡◌, ◌++◌, map, drop}
-use Rattle.tb_script.specs.Awake.{row_of}
+use Rattle.tb_script.specs.Stands.{row_of}
 use Rattle.tb_script.specs.Rounds.{numbered}
 use Rattle.tb_script.proofs.order.rests_of.Given as goal
 

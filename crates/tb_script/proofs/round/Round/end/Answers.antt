@@ -1,5 +1,4 @@
-use Rattle.std.proofs.Common.{◌+◌, ◌≡◌, List, []}
-use Rattle.tb_script.specs.Awake.{stand_of}
+use Rattle.std.proofs.Common.{◌+◌}
 use Rattle.tb_script.proofs.round.Round.end.Goals as goal
 
 pub turns-preserved : goal.turns-preserved

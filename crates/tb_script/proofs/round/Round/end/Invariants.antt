@@ -1,5 +1,5 @@
 use Rattle.std.proofs.Common.{List, ℕ}
-use Rattle.tb_script.specs.Awake.{stand_of, weight, Fits, Follows}
+use Rattle.tb_script.specs.Stands.{stand_of, weight, Fits, Follows}
 use Rattle.tb_script.specs.declared.command.Command.{Command}
 use Rattle.tb_script.proofs.round.Round.end.Given as goal
 

@@ -1,6 +1,6 @@
 use Rattle.std.proofs.Common.{◌+◌, refl}
 use Rattle.std.proofs.lemmas.List.{map-set}
-use Rattle.tb_script.specs.Awake.{row_of}
+use Rattle.tb_script.specs.Stands.{row_of}
 use Rattle.tb_script.specs.declared.round.Rest.{Rest}
 use Rattle.tb_script.proofs.round.Round.go.Goals as goal
 

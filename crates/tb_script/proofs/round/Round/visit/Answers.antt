@@ -1,10 +1,6 @@
-use Rattle.std.proofs.Common.{◌≡◌, ◌+◌, ◌∷◌, ◌∙◌, List, true, false, arith, sym, ap, subst}
-use Rattle.tb_script.specs.Rounds.{numbered}
-use Rattle.tb_script.specs.Runnable.{HasMarkBelow}
-use Rattle.tb_script.specs.Awake.{stand_of, row_at}
-use Rattle.tb_script.specs.declared.command.Command.{Command}
+use Rattle.std.proofs.Common.{true, false, sym, subst}
+use Rattle.tb_script.specs.Stands.{stand_of}
 use Rattle.tb_script.specs.declared.command.Command.TheVariants.{Hear}
-use Rattle.tb_script.specs.declared.turn.Turn.{Turn}
 use Rattle.tb_script.proofs.WalkLaws.{on_ok, told-read}
 use Rattle.tb_script.proofs.VisitLaws.{MayDo, next-is, row-fits, goes-visits, tell-visits, stay-visits, nothing-visits}
 use Rattle.tb_script.proofs.round.Round.visit.Goals as goal

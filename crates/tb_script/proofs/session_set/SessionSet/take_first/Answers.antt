@@ -1,5 +1,5 @@
 use Rattle.std.proofs.Common.{arith}
-use Rattle.tb_script.proofs.SetLaws.{takes-first, none-held}
+use Rattle.tb_script.proofs.SetLaws.{takes-first}
 use Rattle.tb_script.proofs.session_set.SessionSet.take_first.Goals as goal
 
 pub returns : goal.returns

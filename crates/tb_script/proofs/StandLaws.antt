@@ -1,11 +1,12 @@
 -- A session that is passed by can't go on, so the steps taken are those of the rounds.
-use Rattle.std.proofs.Common.{◌≡◌, ◌⊎◌, inl, inr, ℕ, zero, suc, ◌+◌, ◌-◌, ◌*◌, ◌^◌, ◌<◌, ◌≤◌, ◌==◌, ◌&&◌, ◌||◌, not, nat_lt, Bool, true, false, Option, Some, None, List, [], ◌∷◌, ◌++◌, length, get_or, set, refl, sym, ap, ◌∙◌, subst, arith, add-one, append_assoc, append-nil, eqb-true, eq-eqb}
-use Rattle.std.specs.List.{AllByRecursion}
+use Rattle.std.proofs.Common.{◌≡◌, ◌⊎◌, inl, inr, ℕ, zero, suc, ◌+◌, ◌-◌, ◌<◌, ◌≤◌, ◌==◌, ◌&&◌, not, nat_lt, Bool, true, false, Option, Some, None, List, [], ◌∷◌, ◌++◌, length, get_or, set, refl, sym, ap, ◌∙◌, subst, arith, add-one, append_assoc, append-nil, eqb-true}
 use Rattle.std.proofs.lemmas.Bool.{false≢true, ltb-true, ltb-false, eqb-false}
 use Rattle.std.proofs.lemmas.List.{get_or-set_other}
 use Rattle.tb_script.specs.Rounds.{is_among, can_go, once_done, total}
 use Rattle.tb_script.specs.Schedule.{schedule_of}
-use Rattle.tb_script.specs.Awake.{holds, TakesFirst, size, Chooses, Stand, row_at, waiters_of, to_come, WaitsAt, Waits, WaitsIn, Follows}
+use Rattle.tb_script.specs.Sets.{holds, TakesFirst}
+use Rattle.tb_script.specs.Stands.{Stand, row_at, waiters_of, to_come, WaitsAt, Waits, WaitsIn, Follows}
+use Rattle.tb_script.specs.Visits.{Chooses}
 use Rattle.tb_script.specs.declared.command.Command.{Command}
 use Rattle.tb_script.specs.declared.command.Command.TheVariants.{Load, Query, Tell, Hear}
 use Rattle.tb_script.specs.declared.session_set.SessionSet.{SessionSet}
