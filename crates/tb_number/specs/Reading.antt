@@ -1,0 +1,35 @@
+-- The number of an integer text as a function of its bytes.
+use Rattle.std.specs.Prelude.{ℕ, Bool, false, ◌&&◌, ◌||◌, ◌==◌, nat_lt, if◌then◌else◌, List, [], ◌∷◌, take, drop, ℤ, Option, Some, None}
+use Rattle.std.specs.List.{prefix_len, list_all}
+use Rattle.tb_number.specs.IntText.{is_blank, is_digit, number_of, signed, IsIntText, StandsFor}
+
+-- the bytes from the first one on that is no blank
+abbrev pub without_blanks : List ℕ → List ℕ
+without_blanks bytes = drop (prefix_len is_blank bytes) bytes
+
+abbrev pub begins_with_minus : List ℕ → Bool
+begins_with_minus [] = false
+begins_with_minus (b ∷ bs) = b == 45
+
+-- the bytes behind a sign, where they begin with one
+abbrev pub without_sign : List ℕ → List ℕ
+without_sign [] = []
+without_sign (b ∷ bs) = if b == 43 || b == 45 then bs else b ∷ bs
+
+-- the number of digits with blanks behind them; none where there is no digit, or another byte
+abbrev pub digits_with_blanks : Bool → List ℕ → Option ℤ
+digits_with_blanks minus bytes =
+    let len = prefix_len is_digit bytes in
+    if nat_lt 0 len && list_all is_blank (drop len bytes) then Some (signed minus (number_of (take len bytes)))
+    else None
+
+-- the number that the bytes stand for, or none where they are no integer text
+unfoldable pub integer_of : List ℕ → Option ℤ
+integer_of bytes =
+    let text = without_blanks bytes in
+    digits_with_blanks (begins_with_minus text) (without_sign text)
+
+-- what was read: a number that the bytes stand for, or none, and then they are no integer text
+abbrev pub Reads : List ℕ → Option ℤ → Type 0
+Reads bytes None = ¬ IsIntText bytes
+Reads bytes (Some number) = StandsFor bytes number
