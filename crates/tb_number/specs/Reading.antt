@@ -1,5 +1,5 @@
 -- The number of an integer text as a function of its bytes.
-use Rattle.std.specs.Prelude.{ℕ, Bool, false, ◌&&◌, ◌||◌, ◌==◌, nat_lt, if◌then◌else◌, List, [], ◌∷◌, take, drop, ℤ, Option, Some, None}
+use Rattle.std.specs.Prelude.{ℕ, Bool, false, ◌&&◌, ◌||◌, ◌==◌, nat_lt, if◌then◌else◌, List, [], ◌∷◌, take, drop, ℤ, Option, Some, None, option_map}
 use Rattle.std.specs.List.{prefix_len, list_all}
 use Rattle.tb_number.specs.IntText.{is_blank, is_digit, number_of, signed, IsIntText, StandsFor}
 
@@ -16,18 +16,17 @@ abbrev pub without_sign : List ℕ → List ℕ
 without_sign [] = []
 without_sign (b ∷ bs) = if b == 43 || b == 45 then bs else b ∷ bs
 
--- the number of digits with blanks behind them; none where there is no digit, or another byte
-abbrev pub digits_with_blanks : Bool → List ℕ → Option ℤ
-digits_with_blanks minus bytes =
+-- the digits at the front; none where there is no digit, or another byte than a blank behind them
+abbrev pub digits_front : List ℕ → Option (List ℕ)
+digits_front bytes =
     let len = prefix_len is_digit bytes in
-    if nat_lt 0 len && list_all is_blank (drop len bytes) then Some (signed minus (number_of (take len bytes)))
-    else None
+    if nat_lt 0 len && list_all is_blank (drop len bytes) then Some (take len bytes) else None
 
 -- the number that the bytes stand for, or none where they are no integer text
 unfoldable pub integer_of : List ℕ → Option ℤ
 integer_of bytes =
     let text = without_blanks bytes in
-    digits_with_blanks (begins_with_minus text) (without_sign text)
+    option_map (λ digits. signed (begins_with_minus text) (number_of digits)) (digits_front (without_sign text))
 
 -- what was read: a number that the bytes stand for, or none, and then they are no integer text
 abbrev pub Reads : List ℕ → Option ℤ → Type 0

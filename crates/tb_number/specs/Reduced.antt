@@ -1,9 +1,16 @@
 -- Digits as an integer text keeps them.
-use Rattle.std.specs.Prelude.{ℕ, Bool, ◌&&◌, not, ◌==◌, List, [], ◌∷◌}
-use Rattle.std.specs.List.{list_all}
+use Rattle.std.specs.Prelude.{ℕ, Bool, ◌&&◌, not, ◌==◌, List, [], ◌∷◌, drop}
+use Rattle.std.specs.List.{prefix_len, list_all}
 use Rattle.tb_number.specs.IntText.{is_digit}
+
+abbrev pub is_zero : ℕ → Bool
+is_zero b = b == 48
+
+-- the digits from the first one on that is no `0`
+abbrev pub without_zeros : List ℕ → List ℕ
+without_zeros digits = drop (prefix_len is_zero digits) digits
 
 -- digits without leading zeros, so none for zero, and then there is no minus
 abbrev pub is_reduced : Bool → List ℕ → Bool
 is_reduced minus [] = not minus
-is_reduced minus (d ∷ ds) = not (d == 48) && list_all is_digit (d ∷ ds)
+is_reduced minus (d ∷ ds) = not (is_zero d) && list_all is_digit (d ∷ ds)

@@ -7,6 +7,7 @@
 
 mod agg;
 mod op;
+mod spelling;
 mod sort_key;
 
 pub use agg::AggKind;
