@@ -1,3 +1,4 @@
 pub mod Fronts
 pub mod ReadingLaws
+pub mod DigitLaws
 pub mod WorkedRows
