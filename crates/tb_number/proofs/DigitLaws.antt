@@ -9,7 +9,7 @@ use Rattle.std.proofs.lemmas.Cmp.{ranked, by_ranked}
 use Rattle.std.proofs.lemmas.Bool.{and_parts, and_from}
 use Rattle.std.proofs.lemmas.Bool.Decides.{nat_tests}
 use Rattle.tb_number.specs.IntText.{is_digit, with_digit, number_of}
-use Rattle.tb_number.specs.Reduced.{is_zero, is_reduced, without_zeros}
+use Rattle.tb_number.specs.Reduced.{is_zero, is_reduced, without_zeros, keeps_minus, digits_cmp}
 use Rattle.tb_number.proofs.Fronts.{stops, drop-prefix_len}
 
 -- a digit is from 48 to 57
@@ -80,10 +80,6 @@ number_of-shorter a b xs (y ∷ ys) p q less =
     let first = reduced-first b y ys q in
     fold-less 0 (with_digit 0 y) xs ys (omega arith) (omega arith) (reduced-digits a xs p)
 
--- by length, then by bytes
-abbrev pub digits_cmp : List ℕ → List ℕ → Ordering
-digits_cmp xs ys = ordering_then (nat_cmp (length xs) (length ys)) (slice_cmp nat_cmp xs ys)
-
 pub digits_cmp-number_of : (a b : Bool) (xs ys : List ℕ) → is_reduced a xs ≡ true → is_reduced b ys ≡ true → digits_cmp xs ys ≡ nat_cmp (number_of xs) (number_of ys)
 digits_cmp-number_of a b xs ys p q =
     let order = nat_cmp (length xs) (length ys) in
@@ -111,15 +107,11 @@ list_all-drop test zero xs all = all
 list_all-drop test (suc n) [] all = refl
 list_all-drop test (suc n) (x ∷ xs) all = list_all-drop test n xs (and_parts (test x) (list_all test xs) all).1
 
--- a minus is kept where there is a digit
-abbrev pub kept_minus : Bool → List ℕ → Bool
-kept_minus minus digits = minus && not (length digits == 0)
-
-reduced-kept : (minus : Bool) (ds : List ℕ) → stops is_zero ds ≡ true → list_all is_digit ds ≡ true → is_reduced (kept_minus minus ds) ds ≡ true
+reduced-kept : (minus : Bool) (ds : List ℕ) → stops is_zero ds ≡ true → list_all is_digit ds ≡ true → is_reduced (keeps_minus minus ds) ds ≡ true
 reduced-kept true [] stop all = refl
 reduced-kept false [] stop all = refl
 reduced-kept minus (d ∷ ds) stop all = and_from (not (is_zero d)) (list_all is_digit (d ∷ ds)) stop all
 
-pub reduced-without_zeros : (minus : Bool) (ds : List ℕ) → list_all is_digit ds ≡ true → is_reduced (kept_minus minus (without_zeros ds)) (without_zeros ds) ≡ true
+pub reduced-without_zeros : (minus : Bool) (ds : List ℕ) → list_all is_digit ds ≡ true → is_reduced (keeps_minus minus (without_zeros ds)) (without_zeros ds) ≡ true
 reduced-without_zeros minus ds all =
     reduced-kept minus (without_zeros ds) (drop-prefix_len is_zero ds) (list_all-drop is_digit (prefix_len is_zero ds) ds all)

@@ -6,10 +6,15 @@
 #![tactic(auto)]
 
 mod agg;
+mod digits;
+mod int_text;
 mod op;
-mod spelling;
 mod sort_key;
+mod spelling;
+mod sum;
 
 pub use agg::AggKind;
+pub use int_text::IntText;
 pub use op::CmpOp;
 pub use sort_key::SortKey;
+pub use sum::{Past, RunningSum};

@@ -41,7 +41,8 @@ pub fn without_sign(bytes: &[u8]) -> &[u8]
 
 /// The digits at the front, where there is one and only blanks are behind them.
 pub fn digits_front(bytes: &[u8]) -> Option<&[u8]>
-    ensures { option_map (λ digits. digits.now) result ≡ digits_front bytes.now }
+    ensures front { option_map (λ digits. digits.now) result ≡ digits_front bytes.now }
+    ensures digits { IfSome result (λ digits. IsTrue (list_all is_digit digits.now)) }
 {
     let len = digits_len(bytes);
     if len == 0 || !is_all_blank(&bytes[len..]) {
