@@ -4,4 +4,6 @@ pub mod DigitLaws
 pub mod CanonicalLaws
 pub mod SignLaws
 pub mod RangeLaws
+pub mod ValueLaws
+pub mod KeyLaws
 pub mod WorkedRows

@@ -61,10 +61,12 @@ int_cmp-signed true true xs ys p q = digits_cmp-number_of true true ys xs q p �
 int_cmp-signed false true xs ys p q = int_cmp-above (number_of xs) (number_of ys) (number_of-positive ys q)
 int_cmp-signed true false xs ys p q = int_cmp-below (number_of xs) (number_of ys) (number_of-positive xs p)
 
--- the order of two numbers that are kept so
-pub signed_digits_cmp-is : (a b : Bool) (xs ys : List ℕ) (y z : ℤ) → is_reduced a xs ≡ true → is_reduced b ys ≡ true → signed a (number_of xs) ≡ y → signed b (number_of ys) ≡ z
-    → signed_digits_cmp a b xs ys ≡ int_cmp y z
-signed_digits_cmp-is a b xs ys y z p q first second = int_cmp-signed a b xs ys p q ∙ ap (λ n. int_cmp n (signed b (number_of ys))) first ∙ ap (int_cmp y) second
+-- the order of two numbers that are kept so, with these signs
+pub signed_digits_cmp-is : (p q a b : Bool) (xs ys : List ℕ) (y z : ℤ) → a ≡ p → b ≡ q → is_reduced a xs ≡ true → is_reduced b ys ≡ true
+    → signed a (number_of xs) ≡ y → signed b (number_of ys) ≡ z → signed_digits_cmp p q xs ys ≡ int_cmp y z
+signed_digits_cmp-is p q a b xs ys y z first second left right m n =
+    ap (λ t. signed_digits_cmp t q xs ys) (sym first) ∙ ap (λ t. signed_digits_cmp a t xs ys) (sym second)
+    ∙ int_cmp-signed a b xs ys left right ∙ ap (λ t. int_cmp t (signed b (number_of ys))) m ∙ ap (int_cmp y) n
 
 canonical_text-negative : (n : ℕ) → 0 < n → canonical_text (neg_ℤ (pos n)) ≡ 45 ∷ decimal_text n
 unfolding canonical_text

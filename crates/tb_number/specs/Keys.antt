@@ -19,10 +19,13 @@ abbrev pub sorted_as : Option (List ℕ) → SortedAs
 sorted_as None = record { kind = 0; number = pos 0; bytes = [] }
 sorted_as (Some bytes) = value_sorted_as (integer_of bytes) bytes
 
+-- by kind, then by number, then by bytes
+abbrev pub sorted_cmp : SortedAs → SortedAs → Ordering
+sorted_cmp = then_cmp (on (λ k. k.kind) nat_cmp) (then_cmp (on (λ k. k.number) int_cmp) (on (λ k. k.bytes) bytes_cmp))
+
 -- no value first, then integer texts by number, then all other values by bytes
 abbrev pub key_cmp : Option (List ℕ) → Option (List ℕ) → Ordering
-key_cmp = on sorted_as (then_cmp (on (λ k. k.kind) nat_cmp)
-    (then_cmp (on (λ k. k.number) int_cmp) (on (λ k. k.bytes) bytes_cmp)))
+key_cmp = on sorted_as sorted_cmp
 
 -- neither has a value, or their values are equal
 abbrev pub AreEqualKeys : Option (List ℕ) → Option (List ℕ) → Type 0

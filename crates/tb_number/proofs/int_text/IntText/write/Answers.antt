@@ -5,15 +5,15 @@ use Rattle.tb_number.proofs.int_text.IntText.write.Goals as goal
 
 pub returns-then-is_empty-clause-text : goal.returns-then-is_empty-clause-text
 returns-then-is_empty-clause-text c =
-    let is = canonical_text-zero c.self.inside.negative c.self.inside.digits.now c.args.self.now (sym c.if-is_empty.ensures) c.self.invariant c.self.view_is in
+    let is = canonical_text-zero _ c.self.inside.digits.now c.args.self.now (sym c.if-is_empty.ensures) c.self.invariant c.self.view_is in
     rw is (search rules)
 
 pub returns-then-not-self-clause-text : goal.returns-then-not-self-clause-text
 returns-then-not-self-clause-text c =
-    let is = canonical_text-digits c.self.inside.negative c.self.inside.digits.now c.args.self.now (sym c.if-is_empty.ensures) c.if-not-self.true c.self.invariant c.self.view_is in
+    let is = canonical_text-digits _ c.self.inside.digits.now c.args.self.now (sym c.if-is_empty.ensures) c.if-not-self.true c.self.invariant c.self.view_is in
     rw is (search rules)
 
 pub returns-clause-text : goal.returns-clause-text
 returns-clause-text c =
-    let is = canonical_text-minus c.self.inside.negative c.self.inside.digits.now c.args.self.now c.if-not-self.false c.self.invariant c.self.view_is in
+    let is = canonical_text-minus _ c.self.inside.digits.now c.args.self.now c.if-not-self.false c.self.invariant c.self.view_is in
     rw is (search rules)
