@@ -1,6 +1,6 @@
 -- The digits that an integer text keeps are its canonical text, and a canonical text reads back.
-use Rattle.std.proofs.Common.{◌≡◌, ℕ, zero, suc, ◌+◌, ◌-◌, ◌*◌, ◌/◌, ◌%◌, ◌≤◌, ◌<◌, Bool, true, false, cond, ◌==◌, ◌&&◌, List, [], ◌∷◌, ◌++◌, length, Option, Some, None, map, ℤ, pos, negsuc, refl, sym, ap, ◌∙◌, arith, append_assoc, append-nil}
-use Rattle.std.specs.List.{fold, list_all, AllByRecursion}
+use Rattle.std.proofs.Common.{◌≡◌, ℕ, zero, suc, ◌+◌, ◌-◌, ◌*◌, ◌/◌, ◌%◌, ◌<◌, Bool, true, false, ◌==◌, List, [], ◌∷◌, ◌++◌, length, Option, Some, map, ℤ, pos, negsuc, refl, sym, ap, ◌∙◌, arith, append_assoc, append-nil}
+use Rattle.std.specs.List.{fold, list_all}
 use Rattle.std.specs.Int.Digits.{digits_of, number_from_digits_after, AllBelowBase}
 use Rattle.std.proofs.lemmas.List.{map-append, length-map}
 use Rattle.std.proofs.lemmas.Bool.{and_from}
@@ -84,18 +84,30 @@ unfolding canonical_text
 canonical_text-stands (pos n) =
     let is = is-decimal n in
     record {
-      before = []; sign = none; digits = decimal_text n; behind = [];
+      before = [];
+      sign = none;
+      digits = decimal_text n;
+      behind = [];
       whole = sym (append-nil (decimal_text n));
-      blank_before = refl; some_digit = is.some_digit; all_digits = is.all_digits; blank_behind = refl;
+      blank_before = refl;
+      some_digit = is.some_digit;
+      all_digits = is.all_digits;
+      blank_behind = refl;
       number_is = ap pos (sym is.number_is);
     }
 canonical_text-stands (negsuc n) =
     let is = is-decimal (n + 1) in
     let more : n + 1 ≡ suc n = omega arith in
     record {
-      before = []; sign = minus; digits = decimal_text (n + 1); behind = [];
+      before = [];
+      sign = minus;
+      digits = decimal_text (n + 1);
+      behind = [];
       whole = ap (λ t. 45 ∷ t) (sym (append-nil (decimal_text (n + 1))));
-      blank_before = refl; some_digit = is.some_digit; all_digits = is.all_digits; blank_behind = refl;
+      blank_before = refl;
+      some_digit = is.some_digit;
+      all_digits = is.all_digits;
+      blank_behind = refl;
       number_is = sym (ap (signed true) (is.number_is ∙ more));
     }
 

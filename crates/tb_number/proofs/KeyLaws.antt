@@ -1,6 +1,6 @@
 -- The order of keys is total, and keys that it does not tell apart are equal.
-use Rattle.std.proofs.Common.{◌≡◌, ℕ, ◌<◌, List, [], Option, Some, None, ℤ, pos, refl, sym, ap, ◌∙◌, inl, inr, arith, Less, Equal, Greater, Ordering}
-use Rattle.std.specs.Ordering.{nat_cmp, int_cmp, on, then_cmp, ordering_then}
+use Rattle.std.proofs.Common.{◌≡◌, ℕ, ◌<◌, List, Option, Some, None, ℤ, refl, sym, ap, ◌∙◌, inl, inr, arith, Less, Equal, Greater, Ordering}
+use Rattle.std.specs.Ordering.{nat_cmp, int_cmp, ordering_then}
 use Rattle.std.specs.Cmp.{IsTotalOrder}
 use Rattle.std.proofs.lemmas.Cmp.{on_total, then_total, nat_cmp_total, int_cmp_total, nat_list_cmp_total, tied_itself, ranked}
 use Rattle.tb_number.specs.Reading.{integer_of}

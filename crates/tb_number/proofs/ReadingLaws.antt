@@ -1,15 +1,15 @@
 -- An integer text has one reading, which is the number that `integer_of` gives.
-use Rattle.std.proofs.Common.{◌≡◌, ℕ, ◌+◌, ◌≤◌, ◌<◌, Bool, true, false, cond, ◌==◌, ◌||◌, ◌&&◌, not, List, [], ◌∷◌, ◌++◌, length, take, drop, Option, Some, None, refl, sym, ap, ◌∙◌, arith, ℤ, take-append-drop, length-take, eqb-true, ltb-true}
+use Rattle.std.proofs.Common.{◌≡◌, ℕ, ◌<◌, Bool, true, false, cond, ◌==◌, ◌||◌, ◌&&◌, not, List, [], ◌∷◌, ◌++◌, length, take, drop, Option, Some, None, refl, sym, ap, ◌∙◌, arith, ℤ, take-append-drop, eqb-true, ltb-true}
 use Rattle.std.proofs.Math.Seq.{take-append_seam, drop-append_seam}
 use Rattle.std.proofs.lemmas.List.Sums.{prefix_len-le-length}
-use Rattle.std.specs.Prelude.{IsTrue, nat_lt, option_map}
+use Rattle.std.specs.Prelude.{nat_lt, option_map}
 use Rattle.std.specs.List.{prefix_len, list_all}
-use Rattle.std.proofs.lemmas.Bool.{and_parts, and_from}
+use Rattle.std.proofs.lemmas.Bool.{and_parts}
 use Rattle.std.proofs.lemmas.Bool.Decides.{nat_tests}
 use Rattle.std.proofs.lemmas.List.{length-take-le}
 use Rattle.tb_number.specs.IntText.{is_blank, is_digit, number_of, signed, Sign, none, plus, minus, sign_text, is_minus, StandsFor, IsIntText}
 use Rattle.tb_number.specs.Reading.{integer_of, without_blanks, without_sign, begins_with_minus, digits_front, Reads}
-use Rattle.tb_number.proofs.Fronts.{stops, prefix_len-stops, take-prefix_len, drop-prefix_len}
+use Rattle.tb_number.proofs.Fronts.{stops, prefix_len-stops, take-prefix_len}
 
 digit-no_blank : (b : ℕ) → is_digit b ≡ true → not (is_blank b) ≡ true
 digit-no_blank b is = grind (arith, nat_tests)

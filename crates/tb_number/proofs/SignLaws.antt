@@ -1,11 +1,8 @@
 -- Digits with a sign: what is kept of them, how they are compared, and their text.
-use Rattle.std.proofs.Common.{◌≡◌, ℕ, zero, suc, ◌+◌, ◌-◌, ◌≤◌, ◌<◌, Bool, true, false, cond, ◌==◌, ◌&&◌, not, List, [], ◌∷◌, ◌++◌, length, ℤ, pos, negsuc, neg_ℤ, refl, sym, ap, ◌∙◌, arith, Less, Equal, Greater, Ordering}
+use Rattle.std.proofs.Common.{◌≡◌, ℕ, zero, suc, ◌+◌, ◌<◌, Bool, true, false, ◌==◌, List, [], ◌∷◌, length, ℤ, pos, neg_ℤ, refl, sym, ap, ◌∙◌, arith, Less, Greater, Ordering}
 use Rattle.std.specs.Ordering.{nat_cmp, int_cmp}
-use Rattle.std.specs.Cmp.{nat_cmp_is, int_cmp_is}
-use Rattle.std.specs.List.{fold, list_all}
-use Rattle.std.proofs.lemmas.Int.{ints}
 use Rattle.std.proofs.lemmas.Bool.Decides.{nat_tests}
-use Rattle.tb_number.specs.IntText.{is_digit, with_digit, number_of, signed}
+use Rattle.tb_number.specs.IntText.{with_digit, number_of, signed}
 use Rattle.tb_number.specs.Reduced.{is_reduced, without_zeros, keeps_minus, digits_cmp}
 use Rattle.tb_number.specs.Canonical.{decimal_text, canonical_text}
 use Rattle.tb_number.proofs.DigitLaws.{fold-ge, reduced-first, number_of-without_zeros, digits_cmp-number_of}

@@ -1,14 +1,11 @@
 -- Values are equal just where they are compared as equal.
-use Rattle.std.proofs.Common.{◌≡◌, ℕ, Bool, true, false, List, Option, Some, None, ℤ, refl, sym, ap, ◌∙◌, ◌⊎◌, inl, inr, Less, Equal, Greater, Ordering}
-use Rattle.std.specs.Ordering.{nat_cmp, int_cmp, is_eq}
-use Rattle.std.specs.Cmp.{IsTotalOrder}
-use Rattle.std.specs.Cmp.Lexicographic.{slice_cmp}
+use Rattle.std.proofs.Common.{◌≡◌, ℕ, List, Option, Some, None, ℤ, refl, sym, ap, ◌∙◌, inl, inr, Equal}
+use Rattle.std.specs.Ordering.{int_cmp, is_eq}
 use Rattle.std.proofs.lemmas.Cmp.{int_ranked, tied_itself, int_cmp_total, nat_list_cmp_total}
 use Rattle.std.proofs.lemmas.Map.Text.{is_eq-slice_cmp}
 use Rattle.std.proofs.lemmas.Slice.Eq.{bytes_eq-Decides}
-use Rattle.tb_number.specs.IntText.{StandsFor}
 use Rattle.tb_number.specs.Reading.{integer_of}
-use Rattle.tb_number.specs.Values.{AreOneNumber, AreEqual, bytes_cmp, number_or_bytes_cmp, value_cmp}
+use Rattle.tb_number.specs.Values.{AreEqual, bytes_cmp, number_or_bytes_cmp, value_cmp}
 use Rattle.tb_number.proofs.ReadingLaws.{stands-integer_of, integer_of-stands}
 
 pub int_cmp-Equal : (m n : ℤ) → int_cmp m n ≡ Equal → m ≡ n

@@ -1,6 +1,6 @@
 -- Rows worked out by hand: what the definitions come to.
-use Rattle.std.proofs.Common.{◌≡◌, ℕ, List, [], ◌∷◌, ◌++◌, pos, negsuc, refl, Less, Equal, Greater}
-use Rattle.std.specs.Prelude.{codes, replicate, Some, None, ℤ, Option}
+use Rattle.std.proofs.Common.{◌≡◌, ℕ, List, [], ◌∷◌, pos, negsuc, refl, Less, Equal, Greater}
+use Rattle.std.specs.Prelude.{codes, replicate, Some, None}
 use Rattle.tb_number.specs.Reading.{integer_of}
 use Rattle.tb_number.specs.Canonical.{canonical_text}
 use Rattle.tb_number.specs.Range.{within_range, running_sum}

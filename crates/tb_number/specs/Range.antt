@@ -1,5 +1,5 @@
 -- The range of signed numbers of 128 bits, and sums that stay within it.
-use Rattle.std.specs.Prelude.{ℕ, ◌^◌, ◌<◌, Bool, nat_lt, if◌then◌else◌, List, [], ◌∷◌, ℤ, pos, negsuc, ◌+ℤ◌, Option, Some, None, option_and_then}
+use Rattle.std.specs.Prelude.{◌^◌, Bool, nat_lt, if◌then◌else◌, List, [], ◌∷◌, ℤ, pos, negsuc, ◌+ℤ◌, Option, Some, None, option_and_then}
 
 -- at least -2^127 and below 2^127
 abbrev pub is_in_range : ℤ → Bool

@@ -33,5 +33,7 @@ fn with_digit(number: u128, digit: u8) -> Option<u128>
     requires { IsTrue (is_digit digit) }
     ensures { SomeIff result (with_digit number digit < 2 ^ 128) (with_digit number digit) }
 {
-    number.checked_mul(10)?.checked_add(u128::from(digit - b'0'))
+    number
+        .checked_mul(10)?
+        .checked_add(u128::from(digit - b'0'))
 }

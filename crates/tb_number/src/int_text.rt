@@ -10,7 +10,9 @@ ghost use Rattle.tb_number.specs.Canonical.{canonical_text};
 ghost use Rattle.tb_number.specs.Range.{within_range};
 
 use crate::digits::{compare_digits, small_number};
-use crate::spelling::{begins_with_minus, digits_front, without_blanks, without_sign, without_zeros};
+use crate::spelling::{
+    begins_with_minus, digits_front, without_blanks, without_sign, without_zeros,
+};
 use std::alloc::{AllocError, Global};
 use std::cmp::Ordering;
 use std::marker::Model;
@@ -46,17 +48,6 @@ impl<'a> IntText<'a> {
         Some(IntText::of(begins_with_minus(text), digits))
     }
 
-    fn of(minus: bool, digits: &[u8]) -> IntText<'_>
-        requires { IsTrue (list_all is_digit digits.now) }
-        ensures { result ≡ signed minus (number_of digits.now) }
-    {
-        let digits = without_zeros(digits);
-        IntText {
-            negative: keeps_minus(minus, digits),
-            digits,
-        }
-    }
-
     /// The order of the two numbers: one pass over the digits, of any length.
     pub fn compare(&self, other: &IntText<'_>) -> Ordering
         ensures { result ≡ int_cmp self.now other.now }
@@ -81,7 +72,7 @@ impl<'a> IntText<'a> {
         }
     }
 
-    /// Appends the canonical text.
+    /// Appends the canonical text. After a refusal nothing is appended.
     pub fn write(&self, _alloc: Global, out: &mut Vec<u8>) -> Result<(), AllocError>
         ensures text { OnOk result (out.new.items ≡ out.old.items ++ canonical_text self.now) }
         ensures unchanged { OnErr result (out.new.items ≡ out.old.items) }
@@ -93,6 +84,18 @@ impl<'a> IntText<'a> {
             return out.extend_from_slice(self.digits);
         }
         push_negative(self.digits, out)
+    }
+
+    /// The number that the digits write, below 0 where there is a minus.
+    fn of(minus: bool, digits: &[u8]) -> IntText<'_>
+        requires { IsTrue (list_all is_digit digits.now) }
+        ensures { result ≡ signed minus (number_of digits.now) }
+    {
+        let digits = without_zeros(digits);
+        IntText {
+            negative: keeps_minus(minus, digits),
+            digits,
+        }
     }
 }
 

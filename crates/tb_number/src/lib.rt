@@ -18,3 +18,6 @@ pub use int_text::IntText;
 pub use op::CmpOp;
 pub use sort_key::SortKey;
 pub use sum::{Past, RunningSum};
+
+#[cfg(test)]
+mod tests;

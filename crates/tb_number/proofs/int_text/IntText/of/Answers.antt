@@ -1,5 +1,4 @@
 -- Leading zeros and a minus before zero do not count.
-use Rattle.std.proofs.Common.{refl}
 use Rattle.tb_number.proofs.DigitLaws.{reduced-without_zeros}
 use Rattle.tb_number.proofs.SignLaws.{signed-without_zeros}
 use Rattle.tb_number.proofs.int_text.IntText.of.Goals as goal

@@ -1,5 +1,5 @@
 -- What the function gives, the bytes stand for.
-use Rattle.std.proofs.Common.{rules, sym}
+use Rattle.std.proofs.Common.{rules}
 use Rattle.tb_number.specs.Reading.{integer_of}
 use Rattle.tb_number.proofs.ReadingLaws.{reads-integer_of, integer_of-stands}
 use Rattle.tb_number.proofs.int_text.IntText.read.Goals as goal
