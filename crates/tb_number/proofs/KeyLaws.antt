@@ -17,8 +17,8 @@ sorted_cmp-total =
 pub key_cmp-total : IsTotalOrder key_cmp
 key_cmp-total = on_total sorted_as sorted_cmp-total
 
-key_cmp-sorted : (a b : Option (List ℕ)) → sorted_as a ≡ sorted_as b → key_cmp a b ≡ Equal
-key_cmp-sorted a b same = ap (λ s. sorted_cmp s (sorted_as b)) same ∙ tied_itself sorted_cmp-total (sorted_as b)
+key_cmp-sorted_as : (a b : Option (List ℕ)) → sorted_as a ≡ sorted_as b → key_cmp a b ≡ Equal
+key_cmp-sorted_as a b same = ap (λ s. sorted_cmp s (sorted_as b)) same ∙ tied_itself sorted_cmp-total (sorted_as b)
 
 -- The three parts of a key as it is sorted, where two keys are tied.
 
@@ -63,15 +63,21 @@ key_cmp-equal (Some a) None e =
     absurd (let k : (value_sorted_as (integer_of a) a).kind ≡ 0 = t.kind in omega (arith, below-value (integer_of a) a))
 key_cmp-equal (Some a) (Some b) e = equal-values (integer_of a) (integer_of b) a b refl refl (tied (sorted_as (Some a)) (sorted_as (Some b)) e)
 
--- equal values are sorted as one
-same-sorted : (a b : List ℕ) → AreEqual a b → sorted_as (Some a) ≡ sorted_as (Some b)
-same-sorted a b (inl one) =
-    ap (λ n. value_sorted_as n a) (stands-integer_of a one.0 one.1) ∙ sym (ap (λ n. value_sorted_as n b) (stands-integer_of b one.0 one.2))
-same-sorted a b (inr same) = ap (λ v. sorted_as (Some v)) same
+-- Keys are equal just where they are sorted as one; so equality of keys is an equivalence.
 
--- and equal keys are not told apart
+sorted_as-values : (a b : List ℕ) → AreEqual a b → sorted_as (Some a) ≡ sorted_as (Some b)
+sorted_as-values a b (inl one) =
+    ap (λ n. value_sorted_as n a) (stands-integer_of a one.0 one.1) ∙ sym (ap (λ n. value_sorted_as n b) (stands-integer_of b one.0 one.2))
+sorted_as-values a b (inr same) = ap (λ v. sorted_as (Some v)) same
+
+pub equal-sorted_as : (a b : Option (List ℕ)) → AreEqualKeys a b → sorted_as a ≡ sorted_as b
+equal-sorted_as None None same = refl
+equal-sorted_as None (Some b) same = absurd same
+equal-sorted_as (Some a) None same = absurd same
+equal-sorted_as (Some a) (Some b) same = sorted_as-values a b same
+
 pub equal-key_cmp : (a b : Option (List ℕ)) → AreEqualKeys a b → key_cmp a b ≡ Equal
-equal-key_cmp None None same = refl
-equal-key_cmp None (Some b) same = absurd same
-equal-key_cmp (Some a) None same = absurd same
-equal-key_cmp (Some a) (Some b) same = key_cmp-sorted (Some a) (Some b) (same-sorted a b same)
+equal-key_cmp a b same = key_cmp-sorted_as a b (equal-sorted_as a b same)
+
+pub sorted_as-equal : (a b : Option (List ℕ)) → sorted_as a ≡ sorted_as b → AreEqualKeys a b
+sorted_as-equal a b same = key_cmp-equal a b (key_cmp-sorted_as a b same)

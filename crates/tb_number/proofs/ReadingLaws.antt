@@ -7,8 +7,8 @@ use Rattle.std.specs.List.{prefix_len, list_all}
 use Rattle.std.proofs.lemmas.Bool.{and_parts}
 use Rattle.std.proofs.lemmas.Bool.Decides.{nat_tests}
 use Rattle.std.proofs.lemmas.List.{length-take-le}
-use Rattle.tb_number.specs.IntText.{is_blank, is_digit, number_of, signed, Sign, none, plus, minus, sign_text, is_minus, StandsFor, IsIntText}
-use Rattle.tb_number.specs.Reading.{integer_of, without_blanks, without_sign, begins_with_minus, digits_front, Reads}
+use Rattle.tb_number.specs.IntText.{is_blank, is_digit, number_of, signed, Sign, none, plus, minus, sign_text, is_minus, StandsFor, IsIntText, Reads}
+use Rattle.tb_number.specs.Reading.{integer_of, without_blanks, without_sign, begins_with_minus, digits_front}
 use Rattle.tb_number.proofs.Fronts.{stops, prefix_len-stops, take-prefix_len}
 
 digit-no_blank : (b : ℕ) → is_digit b ≡ true → not (is_blank b) ≡ true

@@ -1,5 +1,5 @@
 -- Integer texts, and the number that each stands for.
-use Rattle.std.specs.Prelude.{◌≡◌, ℕ, ◌+◌, ◌-◌, ◌*◌, ◌<◌, Bool, true, false, ◌&&◌, ◌||◌, ◌==◌, nat_le, IsTrue, List, [], ◌∷◌, ◌++◌, length, ℤ, pos, neg_ℤ}
+use Rattle.std.specs.Prelude.{◌≡◌, ℕ, ◌+◌, ◌-◌, ◌*◌, ◌<◌, Bool, true, false, ◌&&◌, ◌||◌, ◌==◌, nat_le, IsTrue, List, [], ◌∷◌, ◌++◌, length, ℤ, pos, neg_ℤ, Option, Some, None}
 use Rattle.std.specs.List.{fold, list_all}
 
 -- tab, line end, return or space
@@ -39,8 +39,8 @@ abbrev pub signed : Bool → ℕ → ℤ
 signed false n = pos n
 signed true n = neg_ℤ (pos n)
 
--- The bytes are any blanks, a sign or none, one digit or more, any blanks, and nothing else. The number is
--- that of the digits, with the sign.
+-- The bytes are any blanks, a sign or none, one digit or more, any blanks, and nothing else. The
+-- number is that of the digits, with the sign.
 pub record StandsFor (bytes : List ℕ) (number : ℤ) : Type 0 where
   pub before : List ℕ
   pub sign : Sign
@@ -56,3 +56,8 @@ pub record StandsFor (bytes : List ℕ) (number : ℤ) : Type 0 where
 -- the bytes stand for some number
 abbrev pub IsIntText : List ℕ → Type 0
 IsIntText bytes = (number : ℤ) × StandsFor bytes number
+
+-- what was read: a number that the bytes stand for, or none, and then they are no integer text
+abbrev pub Reads : List ℕ → Option ℤ → Type 0
+Reads bytes None = ¬ IsIntText bytes
+Reads bytes (Some number) = StandsFor bytes number

@@ -5,10 +5,13 @@ use Rattle.std.specs.declared.cmp.Ordering.{Ordering}
 use Rattle.tb_number.specs.Reading.{integer_of}
 use Rattle.tb_number.specs.Values.{AreEqual, bytes_cmp}
 
--- A key as it is sorted: 0 no value, 1 an integer text with its number, 2 another value with its bytes.
+-- a key as it is sorted
 pub record SortedAs : Type 0 where
+  -- 0 no value, 1 an integer text, 2 another value
   pub kind : ℕ
+  -- of an integer text; 0 of the others
   pub number : ℤ
+  -- of another value; none of the others
   pub bytes : List ℕ
 
 abbrev pub value_sorted_as : Option ℤ → List ℕ → SortedAs
@@ -21,7 +24,8 @@ sorted_as (Some bytes) = value_sorted_as (integer_of bytes) bytes
 
 -- by kind, then by number, then by bytes
 abbrev pub sorted_cmp : SortedAs → SortedAs → Ordering
-sorted_cmp = then_cmp (on (λ k. k.kind) nat_cmp) (then_cmp (on (λ k. k.number) int_cmp) (on (λ k. k.bytes) bytes_cmp))
+sorted_cmp = then_cmp (on (λ k. k.kind) nat_cmp)
+    (then_cmp (on (λ k. k.number) int_cmp) (on (λ k. k.bytes) bytes_cmp))
 
 -- no value first, then integer texts by number, then all other values by bytes
 abbrev pub key_cmp : Option (List ℕ) → Option (List ℕ) → Ordering

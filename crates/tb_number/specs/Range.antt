@@ -17,7 +17,8 @@ sum_with total number = option_and_then (λ n. within_range (total +ℤ n)) (wit
 -- the total with numbers added one after the other, or none where a number or a total is outside
 abbrev pub sum_from : ℤ → List ℤ → Option ℤ
 sum_from total [] = Some total
-sum_from total (number ∷ numbers) = option_and_then (λ sum. sum_from sum numbers) (sum_with total number)
+sum_from total (number ∷ numbers) =
+    option_and_then (λ sum. sum_from sum numbers) (sum_with total number)
 
 -- the sum of numbers in their order, from 0
 abbrev pub running_sum : List ℤ → Option ℤ

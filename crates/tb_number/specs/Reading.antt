@@ -1,7 +1,7 @@
 -- The number of an integer text as a function of its bytes.
 use Rattle.std.specs.Prelude.{ℕ, Bool, false, ◌&&◌, ◌||◌, ◌==◌, nat_lt, if◌then◌else◌, List, [], ◌∷◌, take, drop, ℤ, Option, Some, None, option_map}
 use Rattle.std.specs.List.{prefix_len, list_all}
-use Rattle.tb_number.specs.IntText.{is_blank, is_digit, number_of, signed, IsIntText, StandsFor}
+use Rattle.tb_number.specs.IntText.{is_blank, is_digit, number_of, signed}
 
 -- the bytes from the first one on that is no blank
 abbrev pub without_blanks : List ℕ → List ℕ
@@ -26,9 +26,5 @@ digits_front bytes =
 unfoldable pub integer_of : List ℕ → Option ℤ
 integer_of bytes =
     let text = without_blanks bytes in
-    option_map (λ digits. signed (begins_with_minus text) (number_of digits)) (digits_front (without_sign text))
-
--- what was read: a number that the bytes stand for, or none, and then they are no integer text
-abbrev pub Reads : List ℕ → Option ℤ → Type 0
-Reads bytes None = ¬ IsIntText bytes
-Reads bytes (Some number) = StandsFor bytes number
+    option_map (λ digits. signed (begins_with_minus text) (number_of digits))
+    (digits_front (without_sign text))

@@ -3,8 +3,8 @@
 ghost use Rattle.std.specs.Prelude.{◌≡◌, ◌∷◌, ◌++◌, IsTrue, OnOk, OnErr};
 ghost use Rattle.std.specs.Ordering.{int_cmp};
 ghost use Rattle.std.specs.List.{list_all};
-ghost use Rattle.tb_number.specs.IntText.{is_digit, number_of, signed};
-ghost use Rattle.tb_number.specs.Reading.{integer_of, Reads};
+ghost use Rattle.tb_number.specs.IntText.{is_digit, number_of, signed, Reads};
+ghost use Rattle.tb_number.specs.Reading.{integer_of};
 ghost use Rattle.tb_number.specs.Reduced.{keeps_minus};
 ghost use Rattle.tb_number.specs.Canonical.{canonical_text};
 ghost use Rattle.tb_number.specs.Range.{within_range};

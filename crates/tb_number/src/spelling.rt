@@ -1,10 +1,11 @@
 //! Where blanks, the sign and the digits stand in the bytes of an integer text.
 
-ghost use Rattle.std.specs.Prelude.{◌≡◌, ◌≤◌, IsTrue, IfSome, drop, length};
+ghost use Rattle.std.specs.Prelude.{◌≡◌, ◌≤◌, IsTrue, IfSome, length};
 ghost use Rattle.std.specs.List.{prefix_len, list_all};
 ghost use Rattle.std.specs.Option.{option_map};
-ghost use Rattle.tb_number.specs.IntText.{is_blank, is_digit, number_of};
-ghost use Rattle.tb_number.specs.Reading.{without_blanks, begins_with_minus, without_sign, digits_front};
+ghost use Rattle.tb_number.specs.IntText.{is_blank, is_digit};
+ghost use Rattle.tb_number.specs.Reading.{without_blanks, begins_with_minus, without_sign};
+ghost use Rattle.tb_number.specs.Reading.{digits_front};
 ghost use Rattle.tb_number.specs.Reduced.{without_zeros};
 
 /// The bytes from the first one on that is no blank.
