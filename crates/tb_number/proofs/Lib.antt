@@ -1,0 +1,9 @@
+pub mod Fronts
+pub mod ReadingLaws
+pub mod DigitLaws
+pub mod CanonicalLaws
+pub mod SignLaws
+pub mod RangeLaws
+pub mod ValueLaws
+pub mod KeyLaws
+pub mod WorkedRows
