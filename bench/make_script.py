@@ -1,11 +1,13 @@
 #!/usr/bin/env python3
 """Prints a script that loads one large document and asks one query of it.
 
-    make_script.py SEED MEGABYTES [--same | --document] [--implied PERCENT]
+    make_script.py SEED MEGABYTES [--same | --document | --sessions S] [--implied PERCENT]
 
 The document is random, and the same for the same words. It takes at most MEGABYTES million bytes,
 and falls short of them by less than one subtree. The query asks for each `part` with each `item`
-below it, or with each `part` below it where `--same` is given. With `--document` the document's lines
+below it, or with each `part` below it where `--same` is given. With `--sessions` there are S sessions with
+four loads each, all of MEGABYTES million bytes; behind each load its session asks the query of it, and at the
+end, behind a mark of the session before it, of that session's last document. With `--document` the document's lines
 are printed alone. The document has elements alone; with `--implied` it has attributes and texts too, as
 onsgmls prints them, and PERCENT of 100 attribute lines are of type IMPLIED.
 """
@@ -142,6 +144,20 @@ def random_text(source, words):
     return bytes(text)
 
 
+def write_sessions(out, seed, most, content, sessions):
+    """Four loads a session, each asked of; and then the last document of the session before it."""
+    ask = b'query\nMATCH document("d%d-%d") (//- %b (//- %b))\n.\n'
+    for session in range(1, sessions + 1):
+        out.write(b"session\n")
+        for load in range(1, 5):
+            out.write(b"load d%d-%d\n" % (session, load))
+            write_body(out, seed * 1000 + session * 10 + load, most, content)
+            out.write(b".\n" + ask % (session, load, FIRST, SECOND))
+        before = sessions if session == 1 else session - 1
+        out.write(b"tell m%d\nhear m%d\n" % (session, before))
+        out.write(ask % (before, 4, FIRST, SECOND))
+
+
 def main():
     words = argparse.ArgumentParser(description="Print a script of one load and one query.")
     words.add_argument("seed", type=int)
@@ -149,6 +165,7 @@ def main():
     form = words.add_mutually_exclusive_group()
     form.add_argument("--same", action="store_true", help="ask for one name twice")
     form.add_argument("--document", action="store_true", help="print the document alone")
+    form.add_argument("--sessions", type=int, metavar="S", help="sessions with four loads each")
     words.add_argument("--implied", type=int, metavar="PERCENT", help="with attributes and texts")
     given = words.parse_args()
     second = FIRST if given.same else SECOND
@@ -157,6 +174,9 @@ def main():
     with open(1, "wb", buffering=CHUNK) as out:
         if given.document:
             write_body(out, given.seed, most, content)
+            return
+        if given.sessions:
+            write_sessions(out, given.seed, most, content, given.sessions)
             return
         out.write(b"session\nload %b\n" % DOCUMENT)
         write_body(out, given.seed, most, content)

@@ -1,26 +1,34 @@
 //! The plain program that the proved one is timed against.
 //!
-//! It settles the same scripts by the same steps over the same data: read all of standard input,
-//! cut the script, read the body into a tree, label its nodes, join the lists of the two names, sort the
-//! pairs by ancestor, append a witness tree for each, and write the transcript at once. With the word
-//! `walk` it finds the matches by walking the tree and labels nothing. With `times` it tells on standard
-//! error how long each step took, in nanoseconds. `bench/run` compares the outputs byte for byte.
+//! It settles the same scripts by the same steps over the same data: read all of standard input, copy each
+//! command's name and body, do the commands in rounds, read each body into a tree and label its nodes, join
+//! the lists of a query's two names, sort the pairs by ancestor, append a witness tree for each to the part
+//! of its session, and write the parts and the history at the end. With the word `walk` it finds the matches
+//! by walking the tree and labels nothing. With `times` it tells on standard error how long each step took,
+//! in nanoseconds. It takes scripts without a fault alone. `bench/run` compares the outputs byte for byte.
 
+use std::collections::{BTreeMap, BTreeSet};
 use std::env;
 use std::fs::File;
 use std::io::{self, Write};
 use std::os::fd::AsFd;
 use std::process::ExitCode;
+use std::rc::Rc;
 use std::time::Instant;
 use twin::join::{Axis, join_desc};
-use twin::reader::{next_line, read_tree};
+use twin::reader::read_tree;
 use twin::store::{Item, Store};
-use twin::{MOST_BYTES, Node, read_up_to_most};
+use twin::{Node, read_up_to_most};
 
-/// What a script names, and the lines of its document.
-struct Script<'a> {
-    name: &'a [u8],
-    body: &'a [u8],
+enum Command {
+    Load { name: Vec<u8>, lines: Vec<u8> },
+    Query { text: Vec<u8> },
+    Tell { mark: Vec<u8> },
+    Hear { mark: Vec<u8> },
+}
+
+/// What a query names.
+struct Query<'a> {
     document: &'a [u8],
     first: &'a [u8],
     second: &'a [u8],
@@ -32,6 +40,12 @@ struct Script<'a> {
 struct Match {
     first: u32,
     second: u32,
+}
+
+/// A document with labels, or without where it is walked.
+enum Document {
+    Labelled(Store),
+    Plain(Node),
 }
 
 /// Tells how long each step took, where it is asked to.
@@ -49,52 +63,199 @@ impl Clock {
     }
 }
 
+/// What the commands that are done leave.
+struct Running<'a> {
+    walk: bool,
+    clock: Clock,
+    history: Vec<(usize, u32, &'a [u8], Rc<Document>)>,
+    latest: BTreeMap<&'a [u8], Rc<Document>>,
+    counts: Vec<u32>,
+    seen: Vec<usize>,
+    told: BTreeMap<&'a [u8], usize>,
+    parts: Vec<Vec<u8>>,
+}
+
 fn main() -> io::Result<ExitCode> {
     let word = env::args().nth(1).unwrap_or_default();
     let mut clock = Clock { told: word == "times", last: Instant::now() };
     let bytes = read_up_to_most(&mut io::stdin().lock())?;
     clock.tell("input");
-    let transcript = transcript_of(&bytes, word == "walk", &mut clock);
-    let status = if transcript.is_some() { 0 } else { 9 };
-    let output = transcript.unwrap_or(b"not-built\n".to_vec());
+    let sessions = sessions_of(&bytes);
+    drop(bytes);
+    clock.tell("script");
+    let mut running = Running {
+        walk: word == "walk",
+        clock,
+        history: Vec::new(),
+        latest: BTreeMap::new(),
+        counts: vec![0; sessions.len()],
+        seen: vec![0; sessions.len()],
+        told: BTreeMap::new(),
+        parts: (1..=sessions.len()).map(|n| format!("session {n}\n").into_bytes()).collect(),
+    };
+    for (session, place) in rounds(&sessions) {
+        running.act(session, place, &sessions[session][place]);
+    }
     // `Stdout` buffers by lines and searches each piece for its last line end. All bytes are here
-    // already, so they go to the file itself, in one call.
-    File::from(io::stdout().as_fd().try_clone_to_owned()?).write_all(&output)?;
-    clock.tell("output");
-    Ok(ExitCode::from(status))
+    // already, so they go to the file itself.
+    let mut out = File::from(io::stdout().as_fd().try_clone_to_owned()?);
+    for part in &mut running.parts {
+        part.extend_from_slice(b"end\n");
+        out.write_all(part)?;
+    }
+    out.write_all(&history_text(&running))?;
+    running.clock.tell("output");
+    Ok(ExitCode::SUCCESS)
 }
 
-/// What the script is answered, or `None` where the bytes aren't of the form.
-fn transcript_of(bytes: &[u8], walk: bool, clock: &mut Clock) -> Option<Vec<u8>> {
-    let script = script_of(bytes)?;
-    let root = read_tree(script.body).ok()?;
-    clock.tell("tree");
-    if walk {
-        let mut matches = Vec::new();
-        if script.name == script.document {
-            push_matches(&root, 1, &script, &mut matches);
+/// The sessions with their commands.
+fn sessions_of(bytes: &[u8]) -> Vec<Vec<Command>> {
+    let mut sessions: Vec<Vec<Command>> = Vec::new();
+    let mut rest = bytes;
+    while !rest.is_empty() {
+        let line = next(&mut rest);
+        if line == b"session" {
+            sessions.push(Vec::new());
+            continue;
         }
-        return Some(transcript(&script, &matches));
+        let command = if let Some(name) = line.strip_prefix(b"load ") {
+            Command::Load { name: name.to_vec(), lines: body(&mut rest).to_vec() }
+        } else if line == b"query" {
+            Command::Query { text: body(&mut rest).to_vec() }
+        } else if let Some(mark) = line.strip_prefix(b"tell ") {
+            Command::Tell { mark: mark.to_vec() }
+        } else if let Some(mark) = line.strip_prefix(b"hear ") {
+            Command::Hear { mark: mark.to_vec() }
+        } else {
+            continue;
+        };
+        sessions.last_mut().expect("a session").push(command);
     }
-    let store = Store::build(root);
-    clock.tell("labels");
-    let mut matches = Vec::new();
-    if script.name == script.document {
-        matches = joined(&store, &script, clock);
+    sessions
+}
+
+/// The next line, without its end.
+fn next<'a>(rest: &mut &'a [u8]) -> &'a [u8] {
+    let end = rest.iter().position(|byte| *byte == b'\n').unwrap_or(rest.len());
+    let line = &rest[..end];
+    *rest = &rest[(end + 1).min(rest.len())..];
+    line
+}
+
+/// The lines up to one that is `.` alone.
+fn body<'a>(rest: &mut &'a [u8]) -> &'a [u8] {
+    let whole = *rest;
+    loop {
+        let before = whole.len() - rest.len();
+        if next(rest) == b"." {
+            return &whole[..before];
+        }
     }
-    let text = transcript(&script, &matches);
-    clock.tell("lines");
-    drop(store);
-    clock.tell("freeing");
-    Some(text)
+}
+
+/// The order of the commands: in each round each session's next one, unless it hears an untold mark.
+fn rounds(sessions: &[Vec<Command>]) -> Vec<(usize, usize)> {
+    let mut done = vec![0; sessions.len()];
+    let mut told = BTreeSet::new();
+    let mut steps = Vec::new();
+    loop {
+        let before = steps.len();
+        for (at, session) in sessions.iter().enumerate() {
+            match session.get(done[at]) {
+                None => continue,
+                Some(Command::Hear { mark }) if !told.contains(mark.as_slice()) => continue,
+                Some(Command::Tell { mark }) => drop(told.insert(mark.as_slice())),
+                Some(_) => {}
+            }
+            steps.push((at, done[at]));
+            done[at] += 1;
+        }
+        if steps.len() == before {
+            return steps;
+        }
+    }
+}
+
+impl<'a> Running<'a> {
+    fn act(&mut self, session: usize, place: usize, command: &'a Command) {
+        let number = place + 1;
+        match command {
+            Command::Load { name, lines } => self.load(session, number, name, lines),
+            Command::Query { text } => self.query(session, number, text),
+            Command::Tell { mark } => {
+                self.told.insert(mark, self.seen[session]);
+                self.line(session, number, "tell", mark);
+            }
+            Command::Hear { mark } => {
+                self.seen[session] = self.seen[session].max(self.told[mark.as_slice()]);
+                self.line(session, number, "hear", mark);
+            }
+        }
+    }
+
+    fn line(&mut self, session: usize, number: usize, verb: &str, mark: &[u8]) {
+        let part = &mut self.parts[session];
+        part.extend_from_slice(format!("{number} {verb} ").as_bytes());
+        part.extend_from_slice(mark);
+        part.extend_from_slice(format!(" front {}\n", self.seen[session]).as_bytes());
+    }
+
+    fn load(&mut self, session: usize, number: usize, name: &'a [u8], lines: &[u8]) {
+        let root = read_tree(lines).expect("a document");
+        self.clock.tell("tree");
+        let document = if self.walk { Document::Plain(root) } else { Document::Labelled(Store::build(root)) };
+        let document = Rc::new(document);
+        self.clock.tell("labels");
+        self.counts[session] += 1;
+        self.latest.insert(name, Rc::clone(&document));
+        self.history.push((session, self.counts[session], name, document));
+        self.seen[session] = self.history.len();
+        let part = &mut self.parts[session];
+        part.extend_from_slice(format!("{number} load ").as_bytes());
+        part.extend_from_slice(name);
+        part.extend_from_slice(format!(" at {}\n", self.history.len()).as_bytes());
+    }
+
+    fn query(&mut self, session: usize, number: usize, text: &[u8]) {
+        let query = query_of(text).expect("a query of two names");
+        let front = self.history.len();
+        self.seen[session] = front;
+        let mut matches = Vec::new();
+        match self.latest.get(query.document).map(Rc::as_ref) {
+            Some(Document::Labelled(store)) => matches = joined(store, &query, &mut self.clock),
+            Some(Document::Plain(root)) => drop(push_matches(root, 1, &query, &mut matches)),
+            None => {}
+        }
+        let part = &mut self.parts[session];
+        let trees = matches.len();
+        part.extend_from_slice(format!("{number} query front {front} trees {trees}\n").as_bytes());
+        let opened = [b"(witness\n(".as_slice(), query.first, b"\n(", query.second, b"\n"].concat();
+        let closed = [b")".as_slice(), query.second, b"\n)", query.first, b"\n)witness\n"].concat();
+        let witness = [opened, closed].concat();
+        for _ in &matches {
+            part.extend_from_slice(&witness);
+        }
+        part.extend_from_slice(b".\n");
+        self.clock.tell("lines");
+    }
+}
+
+fn history_text(running: &Running) -> Vec<u8> {
+    let mut out = format!("history {}\n", running.history.len()).into_bytes();
+    for (at, (session, count, name, _)) in running.history.iter().enumerate() {
+        let head = format!("{} session {} change {count} load ", at + 1, session + 1);
+        out.extend_from_slice(&[head.as_bytes(), name, b"\n"].concat());
+    }
+    out.extend_from_slice(b"ok\n");
+    out
 }
 
 /// The matches by two joins: the document with the first name, and that with the second.
-fn joined(store: &Store, script: &Script, clock: &mut Clock) -> Vec<Match> {
-    let list = store.named(script.first);
+fn joined(store: &Store, query: &Query, clock: &mut Clock) -> Vec<Match> {
+    let list = store.named(query.first);
     let below = join_desc(store.document_item(), list, Axis::Descendant);
     let firsts: Vec<Item> = below.iter().map(|pair| list[pair.d as usize]).collect();
-    let seconds = store.named(script.second);
+    let seconds = store.named(query.second);
     let mut pairs = join_desc(&firsts, seconds, Axis::Descendant);
     clock.tell("joins");
     if !pairs.is_sorted_by_key(|pair| pair.a) {
@@ -110,31 +271,13 @@ fn joined(store: &Store, script: &Script, clock: &mut Clock) -> Vec<Match> {
         .collect()
 }
 
-/// The parts of a script, whose body is any lines but `.`.
-fn script_of(text: &[u8]) -> Option<Script<'_>> {
-    let (name, rest) = label_at(text.strip_prefix(b"session\nload ")?)?;
-    let rest = rest.strip_prefix(b"\n")?.strip_suffix(b"\n.\n")?;
-    let end = rest.iter().rposition(|byte| *byte == b'\n')?;
-    let body = rest[..end].strip_suffix(b".\nquery")?;
-    let query = &rest[end + 1..];
-    let (document, rest) = label_at(query.strip_prefix(b"MATCH document(\"")?)?;
+/// The names in a query line.
+fn query_of(text: &[u8]) -> Option<Query<'_>> {
+    let line = text.strip_suffix(b"\n")?;
+    let (document, rest) = label_at(line.strip_prefix(b"MATCH document(\"")?)?;
     let (first, rest) = name_at(rest.strip_prefix(b"\") (//- ")?)?;
     let (second, rest) = name_at(rest.strip_prefix(b" (//- ")?)?;
-    let is_short = text.len() <= MOST_BYTES && query.len() <= 65_535;
-    let is_form = is_short && rest == b"))" && is_body(body);
-    is_form.then_some(Script { name, body, document, first, second })
-}
-
-/// Whether the bytes are whole lines, none of which is `.` alone.
-fn is_body(bytes: &[u8]) -> bool {
-    let mut rest = bytes;
-    while let Some((line, behind)) = next_line(rest) {
-        if line == b"." {
-            return false;
-        }
-        rest = behind;
-    }
-    bytes.is_empty() || bytes.ends_with(b"\n")
+    (rest == b"))" && line.len() <= 65_535).then_some(Query { document, first, second })
 }
 
 /// The name of a document at the front, and what follows.
@@ -161,14 +304,14 @@ fn begins_name(text: &[u8]) -> bool {
 
 /// Collects the matches whose first node is this one, which has that number, or stands below it.
 /// Answers the number of the node that follows them.
-fn push_matches(node: &Node, number: u32, script: &Script, out: &mut Vec<Match>) -> u32 {
+fn push_matches(node: &Node, number: u32, query: &Query, out: &mut Vec<Match>) -> u32 {
     let mut next = number + 1;
     if let Node::Elem { name, kids } = node {
-        if name == script.first {
-            pair(kids, number, script.second, next, out);
+        if name == query.first {
+            pair(kids, number, query.second, next, out);
         }
         for kid in kids {
-            next = push_matches(kid, next, script, out);
+            next = push_matches(kid, next, query, out);
         }
     }
     next
@@ -190,19 +333,3 @@ fn pair(kids: &[Node], first: u32, second: &[u8], mut next: u32, out: &mut Vec<M
     next
 }
 
-/// The answers to the load and to the query, and the history. The matched elements show no content,
-/// so all witness trees print the same lines.
-fn transcript(script: &Script, matches: &[Match]) -> Vec<u8> {
-    let Script { name, first, second, .. } = *script;
-    let opened = [b"(witness\n(".as_slice(), first, b"\n(", second, b"\n"].concat();
-    let closed = [b")".as_slice(), second, b"\n)", first, b"\n)witness\n"].concat();
-    let witness = [opened, closed].concat();
-    let count = format!(" at 1\n2 query front 1 trees {}\n", matches.len());
-    let mut out = [b"session 1\n1 load ".as_slice(), name, count.as_bytes()].concat();
-    for _ in matches {
-        out.extend_from_slice(&witness);
-    }
-    let history = b".\nend\nhistory 1\n1 session 1 change 1 load ".as_slice();
-    out.extend_from_slice(&[history, name, b"\nok\n"].concat());
-    out
-}

@@ -1,11 +1,11 @@
 -- A query is cut exactly where it is spelled.
-use Rattle.std.proofs.Common.{◌≡◌, ℕ, ◌-◌, suc, Bool, true, false, ◌&&◌, ◌||◌, cond, not, IsTrue, List, [], ◌∷◌, ◌++◌, length, take, drop, Option, Some, None, refl, sym, ap, ap₂, ◌∙◌, subst, arith, ◌==◌, nat_lt, nat_le, eqb-true, length-append}
+use Rattle.std.proofs.Common.{◌≡◌, ℕ, ◌-◌, suc, Bool, true, false, ◌&&◌, ◌||◌, cond, IsTrue, List, [], ◌∷◌, ◌++◌, length, take, drop, Option, Some, refl, sym, ap, ap₂, ◌∙◌, subst, arith, ◌==◌, nat_lt, nat_le, length-append}
 use Rattle.std.specs.List.{prefix_len, list_all}
 use Rattle.std.specs.Str.{bytes_eq}
 use Rattle.std.proofs.lemmas.List.{take_at, drop_at, take-append-drop}
 use Rattle.std.proofs.lemmas.List.Folds.{length-prefix_len}
 use Rattle.std.proofs.lemmas.Slice.Eq.{bytes_eq-Decides}
-use Rattle.std.proofs.lemmas.Bool.{and_parts, and_from, or_parts, false≢true, not-true, ne_eqb, le-ltb, lt-ltb, ltb-true, ltb-false, eqb-false, leb-true, le-leb}
+use Rattle.std.proofs.lemmas.Bool.{and_parts, and_from, or_parts, false≢true, ne_eqb, le-ltb, ltb-false, eqb-false, leb-true, le-leb}
 use Rattle.tb_tree.proofs.Steps.{guarded, kept, same_pair}
 use Rattle.tb_tree.proofs.Fronts.{prefix_len-stop, take-prefix_len}
 use Rattle.tb_script.specs.Forms.{is_label, is_label_byte}

@@ -1,5 +1,5 @@
 -- What is done of a script: the deeds so far, one more, and the transcript of all.
-use Rattle.std.proofs.Common.{◌≡◌, ◌≢◌, ℕ, ◌+◌, ◌<◌, ◌≤◌, ◌==◌, ◌⊎◌, inl, inr, Bool, true, false, cond, Option, Some, List, [], ◌∷◌, ◌++◌, map, take, length, get_or, set, codes, refl, sym, ap, ap₂, ◌∙◌, subst, arith, append-nil, append_assoc, eqb-true, eq-eqb}
+use Rattle.std.proofs.Common.{◌≡◌, ℕ, ◌+◌, ◌<◌, ◌==◌, ◌⊎◌, inl, inr, Bool, true, false, cond, Some, List, [], ◌∷◌, ◌++◌, map, length, get_or, set, codes, refl, sym, ap, ap₂, ◌∙◌, subst, arith, append-nil, append_assoc, eqb-true, eq-eqb}
 use Rattle.std.specs.List.{AllByRecursion, flat_map, filter, range_with_len}
 use Rattle.std.proofs.lemmas.Bool.{cases_eq, false_from_ne_true}
 use Rattle.std.proofs.lemmas.List.{map-append, length-append, length-set, get_or-set_same, get_or-set_other, ext_get_or, take-append-le}
@@ -20,9 +20,9 @@ use Rattle.tb_core.specs.declared.event.Event.{Event}
 use Rattle.tb_top.specs.Answer.{answer_of, two_names}
 use Rattle.tb_top.specs.History.{Change, document_in}
 use Rattle.tb_top.specs.Deeds.{Record, loaded, refused, answered, told, heard, Deed, event_of, events_of, change_by, changes_behind, history_of, IsAnswer, IsResult}
-use Rattle.tb_top.specs.Single.{step_of, world_of, IsRun, IsTranscript}
-use Rattle.tb_top.specs.Transcript.{block_of, blocks_of, session_part, history_part, transcript_of}
-use Rattle.tb_top.specs.Running.{Progress, behind, Does, begun, at_start, ended}
+use Rattle.tb_top.specs.Single.{step_of, world_of, IsTranscript}
+use Rattle.tb_top.specs.Transcript.{block_of, blocks_of, history_part}
+use Rattle.tb_top.specs.Running.{Progress, Does, begun, at_start, ended}
 
 -- the answers of events, and what they leave, one after the other
 run-append : (w : State) (es fs : List Event) → run w (es ++ fs) ≡ run w es ++ run (after_all w es) fs

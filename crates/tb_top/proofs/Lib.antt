@@ -13,3 +13,6 @@ pub mod ReadyLaws
 pub mod CheckLaws
 pub mod BuiltLaws
 pub mod SettledLaws
+pub mod Completeness
+pub mod TranscriptRows
+pub mod RunLaws

@@ -1,7 +1,6 @@
 -- A text is that of a query exactly where the query is found.
-use Rattle.std.proofs.Common.{◌≡◌, ℕ, ◌≤◌, true, IsTrue, IsSome, ◌↔◌, List, ◌++◌, length, Option, Some, None, codes, refl, sym, ap, ap₂, ◌∙◌, subst, nat_le}
+use Rattle.std.proofs.Common.{◌≡◌, ℕ, ◌≤◌, IsTrue, List, ◌++◌, length, Option, Some, codes, refl, sym, ap, ap₂, ◌∙◌, subst, nat_le}
 use Rattle.std.specs.Str.{bytes_eq}
-use Rattle.std.specs.Option.{is_some}
 use Rattle.std.proofs.lemmas.Bool.{le-leb, leb-true}
 use Rattle.tb_tree.proofs.Steps.{bind_some, kept}
 use Rattle.tb_script.specs.Forms.{is_label}

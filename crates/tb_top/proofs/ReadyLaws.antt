@@ -1,12 +1,12 @@
 -- In the order of the rounds each command is ready when its turn comes.
-use Rattle.std.proofs.Common.{◌≡◌, ℕ, zero, suc, ◌+◌, ◌<◌, ◌≤◌, ◌||◌, ◌==◌, ◌⊎◌, inl, inr, Bool, true, false, Option, Some, None, IsSome, List, [], ◌∷◌, ◌++◌, map, length, get_or, set, replicate, refl, sym, ap, ap₂, ◌∙◌, subst, arith, eqb-true, eq-eqb}
+use Rattle.std.proofs.Common.{◌≡◌, ℕ, zero, suc, ◌+◌, ◌<◌, ◌≤◌, ◌||◌, ◌==◌, ◌⊎◌, inl, inr, true, false, Option, Some, None, IsSome, List, [], ◌∷◌, map, length, get_or, set, replicate, refl, sym, ap, ◌∙◌, subst, arith, eqb-true, eq-eqb}
 use Rattle.std.specs.List.{AllByRecursion, slice_get}
-use Rattle.std.specs.Option.{is_some, option_map}
+use Rattle.std.specs.Option.{is_some}
 use Rattle.std.proofs.lemmas.Bool.{cases_eq, false_from_ne_true, false≢true}
 use Rattle.std.proofs.lemmas.List.{length-append, length-set, length-map, length-replicate, get_or-set_same, get_or-set_other, get_or-map, get_or_past}
 use Rattle.std.proofs.lemmas.List.FromFn.{length-map-range_with_len}
 use Rattle.tb_script.specs.Rounds.{is_among, once_done}
-use Rattle.tb_script.specs.Runnable.{commands_in, HasBodyThatFits, HasMarkBelow, loads_of, loads_in, IsRunnable}
+use Rattle.tb_script.specs.Runnable.{commands_in, HasBodyThatFits, HasMarkBelow, loads_of, IsRunnable}
 use Rattle.tb_script.specs.Schedule.{schedule_of, command_at, commands_of_steps, MayGo, GoOn}
 use Rattle.tb_script.specs.declared.command.Command.{Command}
 use Rattle.tb_script.specs.declared.command.Command.TheVariants.{Load, Query, Tell, Hear}
@@ -15,11 +15,11 @@ use Rattle.tb_script.specs.declared.command.Workload.{Workload}
 use Rattle.tb_script.specs.declared.turnstep.Turnstep.{Turnstep}
 use Rattle.tb_script.proofs.ScheduleLaws.{steps-keep, commands-next, schedule-within, schedule-loads, schedule-below, schedule-goes_on}
 use Rattle.tb_core.specs.declared.event.Event.TheVariants as event
-use Rattle.tb_core.specs.World.{State, start, with_seen, answer, after, after_all, told_at}
+use Rattle.tb_core.specs.World.{State, with_seen, answer, after_all, told_at}
 use Rattle.tb_top.specs.History.{Change}
 use Rattle.tb_top.specs.Deeds.{Record, loaded, refused, answered, told, heard, event_of, change_by, IsResult}
-use Rattle.tb_top.specs.Single.{world_of, IsBuilt, AreBuilt}
-use Rattle.tb_top.specs.Running.{Progress, behind, Does, Stands, IsReadyFor, begun, at_start}
+use Rattle.tb_top.specs.Single.{IsBuilt, AreBuilt}
+use Rattle.tb_top.specs.Running.{Progress, Does, Stands, IsReadyFor, begun, at_start}
 
 -- the marks that were told are these
 abbrev Agree : List ℕ → State → Type 0

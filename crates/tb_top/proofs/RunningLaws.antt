@@ -1,18 +1,15 @@
 -- One command more: what it leaves, and that it was done.
-use Rattle.std.proofs.Common.{◌≡◌, ℕ, ◌+◌, ◌<◌, List, [], ◌∷◌, ◌++◌, Vec, Global, map, length, get_or, set, Some, refl, sym, ap, ap₂, ◌∙◌, subst, arith, append-nil}
-use Rattle.std.proofs.lemmas.List.{map-set, get_or-map, length-map}
+use Rattle.std.proofs.Common.{◌≡◌, ℕ, ◌+◌, ◌<◌, List, [], ◌∷◌, ◌++◌, Vec, Global, map, length, get_or, set, Some, sym, ap, ◌∙◌, append-nil}
+use Rattle.std.proofs.lemmas.List.{map-set, get_or-map}
 use Rattle.tb_tree.specs.Plain.{Plain}
 use Rattle.tb_esis.specs.Reading.{IsReadAs}
-use Rattle.tb_esis.specs.Faults.{fault_of}
-use Rattle.tb_esis.specs.declared.fault.EsisFault.{EsisFault}
 use Rattle.tb_script.specs.declared.command.Command.{Command}
 use Rattle.tb_script.specs.declared.command.Command.TheVariants as command
 use Rattle.tb_script.specs.declared.turnstep.Turnstep.{Turnstep}
 use Rattle.tb_core.specs.World.{State, answer, after, run, after_all}
 use Rattle.tb_core.specs.declared.event.Event.TheVariants as event
-use Rattle.tb_top.specs.Answer.{Answer}
 use Rattle.tb_top.specs.History.{Change, count_of}
-use Rattle.tb_top.specs.Deeds.{Record, loaded, refused, answered, told, heard, event_of, change_by, IsResult, IsAnswer}
+use Rattle.tb_top.specs.Deeds.{Record, loaded, event_of, change_by, IsResult}
 use Rattle.tb_top.specs.Transcript.{block_of}
 use Rattle.tb_top.specs.Running.{Progress, behind, Does}
 

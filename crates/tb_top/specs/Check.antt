@@ -3,7 +3,7 @@ use Rattle.std.specs.Prelude.{ℕ, ◌+◌, List, [], ◌∷◌, ◌++◌, Optio
 use Rattle.tb_esis.specs.Faults.{fault_of}
 use Rattle.tb_esis.specs.declared.fault.EsisFault.{EsisFault}
 use Rattle.tb_script.specs.declared.command.Command.{Command}
-use Rattle.tb_script.specs.declared.command.Command.TheVariants.{Load, Query, Tell, Hear}
+use Rattle.tb_script.specs.declared.command.Command.TheVariants.{Load, Query}
 use Rattle.tb_script.specs.Runnable.{loads_in}
 use Rattle.tb_top.specs.FaultText.{esis_fault_text}
 

@@ -1,5 +1,5 @@
 -- What the reader of queries cuts from a text.
-use Rattle.std.specs.Prelude.{ℕ, ◌-◌, ◌&&◌, ◌||◌, ◌==◌, nat_lt, nat_le, if◌then◌else◌, List, [], ◌∷◌, length, take, drop, Option, Some, None, codes, suc}
+use Rattle.std.specs.Prelude.{ℕ, ◌-◌, ◌||◌, ◌==◌, nat_lt, nat_le, if◌then◌else◌, List, [], ◌∷◌, length, take, drop, Option, Some, None, codes, suc}
 use Rattle.std.specs.List.{prefix_len}
 use Rattle.tb_tree.specs.Steps.{◌>>=◌}
 use Rattle.std.specs.Str.{bytes_eq}

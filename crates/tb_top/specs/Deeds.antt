@@ -1,6 +1,6 @@
 -- What the commands of a script come to.
-use Rattle.std.specs.Prelude.{◌≡◌, ℕ, ◌+◌, ◌≤◌, ◌==◌, List, [], ◌∷◌, ◌++◌, Some, length}
-use Rattle.std.specs.List.{flat_map, filter}
+use Rattle.std.specs.Prelude.{◌≡◌, ℕ, ◌+◌, ◌≤◌, List, [], ◌∷◌, ◌++◌, Some, length}
+use Rattle.std.specs.List.{flat_map}
 use Rattle.tb_tree.specs.Plain.{Plain}
 use Rattle.tb_esis.specs.Reading.{IsReadAs}
 use Rattle.tb_esis.specs.Faults.{fault_of}

@@ -1,5 +1,5 @@
 -- The history of a script's loads, and the documents of a front.
-use Rattle.std.specs.Prelude.{◌≡◌, ℕ, ◌+◌, ◌==◌, if◌then◌else◌, List, [], ◌∷◌, take, Option, Some, None}
+use Rattle.std.specs.Prelude.{ℕ, ◌+◌, ◌==◌, if◌then◌else◌, List, [], ◌∷◌, take, Option, Some, None}
 use Rattle.std.specs.Str.{bytes_eq}
 use Rattle.tb_tree.specs.Plain.{Plain}
 

@@ -1,5 +1,5 @@
 -- A text in pieces: words of private clauses.
-use Rattle.std.specs.Prelude.{ℕ, List, ◌++◌, map}
+use Rattle.std.specs.Prelude.{ℕ, List, ◌++◌}
 use Rattle.std.specs.List.{flat_map}
 use Rattle.std.proofs.Common.{Vec, Global}
 use Rattle.tb_top.specs.declared.pieces.Pieces as code

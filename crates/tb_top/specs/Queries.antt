@@ -1,5 +1,5 @@
 -- What a query that was read names, and which texts are built: words of private clauses.
-use Rattle.std.specs.Prelude.{List, ℕ, Bool, true}
+use Rattle.std.specs.Prelude.{Bool, true}
 use Rattle.std.specs.Option.{is_some}
 use Rattle.tb_script.specs.declared.command.Command.{Command}
 use Rattle.tb_script.specs.declared.command.Command.TheVariants as command

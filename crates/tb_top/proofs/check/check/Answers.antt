@@ -1,6 +1,5 @@
 -- A script that can be run has at most 640,000 commands.
-use Rattle.std.proofs.Common.{ℕ, ◌*◌, ◌^◌, ◌<◌, ◌≤◌, List, length, map, sym, subst, arith}
-use Rattle.std.proofs.lemmas.List.{length-map}
+use Rattle.std.proofs.Common.{◌^◌, ◌<◌, List, map, sym, subst, arith}
 use Rattle.tb_script.specs.declared.command.Script.{Script}
 use Rattle.tb_script.specs.Runnable.{commands_in}
 use Rattle.tb_top.specs.Check.{commands_count, queries_in}

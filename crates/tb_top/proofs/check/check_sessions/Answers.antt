@@ -1,5 +1,5 @@
 -- The refusals, and then the counts.
-use Rattle.std.proofs.Common.{ℕ, List, ◌++◌, length, map, sym, ap, ap₂, ◌∙◌, append_assoc}
+use Rattle.std.proofs.Common.{◌++◌, length, map, sym, ap, ap₂, ◌∙◌, append_assoc}
 use Rattle.std.proofs.lemmas.List.{length-map}
 use Rattle.tb_top.specs.Check.{refusals_in, counts_line}
 use Rattle.tb_top.proofs.check.check_sessions.Goals as goal

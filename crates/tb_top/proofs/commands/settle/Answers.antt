@@ -1,5 +1,5 @@
 -- What the script comes to is written.
-use Rattle.std.proofs.Common.{List, ℕ, refl, sym, ap, ◌∙◌, subst, arith, length, ◌≤◌}
+use Rattle.std.proofs.Common.{subst, arith, length, ◌≤◌}
 use Rattle.tb_top.specs.Calls.{SinkMoved, Published}
 use Rattle.tb_top.specs.Pieces.{joined}
 use Rattle.tb_top.proofs.SettledLaws.{settled}

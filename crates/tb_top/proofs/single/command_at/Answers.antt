@@ -1,5 +1,5 @@
 -- The command stands in its session.
-use Rattle.std.proofs.Common.{◌≡◌, ℕ, ◌<◌, List, IsSome, length, refl, sym, ap, ◌∙◌, subst, arith}
+use Rattle.std.proofs.Common.{IsSome, refl, ap, ◌∙◌, subst, arith}
 use Rattle.std.specs.List.{slice_get}
 use Rattle.std.proofs.lemmas.Option.{slice_get_read}
 use Rattle.tb_top.proofs.ReadyLaws.{some-within, row-read}

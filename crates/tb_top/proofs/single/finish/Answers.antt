@@ -1,5 +1,5 @@
 -- The parts with their ends, and then the history.
-use Rattle.std.proofs.Common.{◌≡◌, ℕ, List, [], ◌++◌, map, codes, sym, ap, ap₂, ◌∙◌}
+use Rattle.std.proofs.Common.{ℕ, List, ◌++◌, map, codes, sym, ap, ap₂, ◌∙◌}
 use Rattle.std.specs.List.{flat_map}
 use Rattle.std.proofs.lemmas.List.Folds.{flat_map-map}
 use Rattle.tb_top.specs.Transcript.{history_part}

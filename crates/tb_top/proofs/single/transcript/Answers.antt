@@ -1,10 +1,10 @@
 -- The commands are done in the order of the rounds.
-use Rattle.std.proofs.Common.{◌≡◌, ℕ, ◌+◌, ◌<◌, List, [], ◌∷◌, ◌++◌, length, take, drop, get_or, sym, ap, ◌∙◌, subst, arith}
+use Rattle.std.proofs.Common.{◌≡◌, ◌+◌, List, [], take, drop, get_or, sym, ◌∙◌, subst}
 use Rattle.std.proofs.lemmas.List.{take_more, drop_more, take_all}
 use Rattle.tb_script.specs.declared.turnstep.Turnstep.{Turnstep}
 use Rattle.tb_script.specs.Runnable.{commands_in}
 use Rattle.tb_script.specs.Schedule.{schedule_of}
-use Rattle.tb_top.specs.Running.{Progress, progress_of, at_start}
+use Rattle.tb_top.specs.Running.{progress_of}
 use Rattle.tb_top.specs.Single.{IsTranscript}
 use Rattle.tb_top.proofs.DoneLaws.{Done, done-start, done-more, done-transcript}
 use Rattle.tb_top.proofs.ReadyLaws.{Goes, goes-start, goes-ready, goes-more}

@@ -1,5 +1,5 @@
 -- The change is added, and the session's part grows by its line.
-use Rattle.std.proofs.Common.{ℕ, ◌<◌, ◌++◌, [], length, refl, sym, ap₂, ◌∙◌, subst, arith}
+use Rattle.std.proofs.Common.{◌<◌, ◌++◌, length, sym, ap₂, ◌∙◌, subst, arith}
 use Rattle.std.proofs.lemmas.List.{length-map}
 use Rattle.tb_tree.specs.View.{plain_of}
 use Rattle.tb_esis.specs.Reading.{IsReadAs}

@@ -1,5 +1,5 @@
 -- The session's part grows by the line of the refusal.
-use Rattle.std.proofs.Common.{ℕ, ◌<◌, ◌++◌, [], length, refl, ap, ◌∙◌, arith}
+use Rattle.std.proofs.Common.{◌<◌, ◌++◌, length, refl, ap, ◌∙◌, arith}
 use Rattle.std.proofs.lemmas.List.{length-map}
 use Rattle.tb_script.specs.declared.command.Command.TheVariants as command
 use Rattle.tb_top.specs.Deeds.{refused}

@@ -1,5 +1,5 @@
 -- The event is answered its number, and the session's part grows by its line.
-use Rattle.std.proofs.Common.{ℕ, ◌<◌, ◌∷◌, ◌+◌, ◌++◌, [], length, refl, ap, ◌∙◌, arith}
+use Rattle.std.proofs.Common.{◌<◌, ◌∷◌, ◌++◌, [], length, refl, ap, ◌∙◌, arith}
 use Rattle.tb_top.specs.Transcript.{told_line}
 use Rattle.std.proofs.lemmas.List.{length-map}
 use Rattle.tb_script.specs.declared.command.Command.TheVariants as command
