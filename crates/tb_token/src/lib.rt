@@ -1,0 +1,20 @@
+//! The tokens of queries.
+//!
+//! Readers of queries call it. What is proved is that `tokens` cuts a text into its longest tokens, or
+//! finds the first place at which none begins (`cut`), and that there is one such cut (`once`).
+#![tactic(auto)]
+
+mod bytes;
+mod cut;
+mod fault;
+mod front;
+mod names;
+mod signs;
+mod token;
+
+pub use cut::tokens;
+pub use fault::LexFault;
+pub use token::{Kind, Token};
+
+#[cfg(test)]
+mod tests;
