@@ -1,6 +1,5 @@
 -- A text is cut in one way, and its tokens rise.
-use Rattle.std.proofs.Common.{◌≡◌, ℕ, zero, suc, ◌+◌, ◌<◌, ◌≤◌, Bool, true, false, List, [], ◌∷◌, ◌++◌, length, take, drop, Option, Some, None, refl, sym, ap, ◌∙◌, subst, arith, length-drop}
-use Rattle.std.proofs.Math.Nat.{le_antisymm}
+use Rattle.std.proofs.Common.{◌≡◌, ℕ, zero, suc, ◌+◌, ◌<◌, ◌≤◌, true, List, [], ◌∷◌, length, take, drop, Option, refl, sym, subst, arith, length-drop}
 use Rattle.tb_token.specs.Bytes.{is_blank, is_quote}
 use Rattle.tb_token.specs.Kinds.{is_token}
 use Rattle.tb_token.specs.Cuts.{IsLongest, BeginsNone, AreCut, at_end, behind_blank, behind_token, at_byte, at_quote, token, IsCut}
@@ -9,8 +8,7 @@ use Rattle.tb_token.specs.declared.token.Kind.{Kind}
 use Rattle.tb_token.specs.declared.token.Kind.TheVariants.{Name, Word, Variable, Number, Quoted, TextTest, Sign}
 use Rattle.tb_token.specs.declared.token.Token.{Token}
 use Rattle.tb_token.specs.declared.fault.LexFault.{LexFault}
-use Rattle.tb_token.specs.declared.fault.LexFault.TheVariants.{BadByte, OpenString}
-use Rattle.tb_token.proofs.KindLaws.{class_of, kind_class, blank-class, quote-class, token-some, kind-unique}
+use Rattle.tb_token.proofs.KindLaws.{kind_class, blank-class, quote-class, token-some, kind-unique}
 use Rattle.tb_token.proofs.FrontLaws.{none-true, token-front}
 
 -- a token has a byte

@@ -1,5 +1,5 @@
 -- What the program finds at the front is the longest token, and it finds one wherever there is one.
-use Rattle.std.proofs.Common.{◌≡◌, ◌⊎◌, inl, inr, ⊎_elim, ℕ, zero, suc, ◌+◌, ◌<◌, ◌≤◌, Bool, true, false, cond, not, ◌==◌, ◌&&◌, ◌||◌, List, [], ◌∷◌, ◌++◌, length, take, drop, Option, Some, None, refl, sym, ap, ◌∙◌, subst, arith, eqb-true, ltb-true, take-append-drop, length-append}
+use Rattle.std.proofs.Common.{◌≡◌, ◌⊎◌, inl, inr, ⊎_elim, ℕ, zero, suc, ◌+◌, ◌<◌, ◌≤◌, Bool, true, false, cond, not, ◌==◌, List, [], ◌∷◌, ◌++◌, length, take, drop, Option, None, refl, sym, ap, ◌∙◌, subst, arith, eqb-true, ltb-true, take-append-drop}
 use Rattle.std.specs.Prelude.{codes, nat_lt, nat_eq}
 use Rattle.std.specs.List.{list_all, prefix_len, starts_with}
 use Rattle.std.specs.Str.{bytes_eq}
@@ -9,15 +9,15 @@ use Rattle.std.proofs.lemmas.Bool.Decides.{nat_tests}
 use Rattle.std.proofs.lemmas.List.{length-take-le}
 use Rattle.std.proofs.lemmas.List.Sums.{prefix_len-le-length}
 use Rattle.tb_token.specs.Bytes.{is_blank, is_digit, is_quote, starts_name}
-use Rattle.tb_token.specs.Names.{is_name, is_word, is_among, begins_name}
-use Rattle.tb_token.specs.Kinds.{is_token, is_number, is_variable, is_quoted, is_closed, is_text_test, signs}
-use Rattle.tb_token.specs.Cuts.{IsLongest, BeginsNone}
-use Rattle.tb_token.specs.Fronts.{Finds, found, rest_len, begins_text_test, named, quoted, variable, is_pair, is_single, single, sign, front_of}
+use Rattle.tb_token.specs.Names.{is_name, is_word, is_among}
+use Rattle.tb_token.specs.Kinds.{is_token, is_closed, is_text_test, signs}
+use Rattle.tb_token.specs.Cuts.{IsLongest}
+use Rattle.tb_token.specs.Fronts.{Finds, found, rest_len, begins_text_test, named, quoted, variable, is_pair, is_single, sign, front_of}
 use Rattle.tb_token.specs.declared.token.Kind.{Kind}
 use Rattle.tb_token.specs.declared.token.Kind.TheVariants.{Name, Word, Variable, Number, Quoted, TextTest, Sign}
 use Rattle.tb_token.specs.declared.front.Front.{Front}
-use Rattle.tb_token.proofs.AmongLaws.{or-by, among-passes, not-true}
-use Rattle.tb_token.proofs.KindLaws.{class_of, kind_class, name-class, digit-class, quote-class, dollar-class, token-class, token-some, word-name, text_test-no_name}
+use Rattle.tb_token.proofs.AmongLaws.{or-by, among-passes}
+use Rattle.tb_token.proofs.KindLaws.{class_of, kind_class, name-class, digit-class, quote-class, dollar-class, token-class, token-some, word-name}
 use Rattle.tb_token.proofs.SizeLaws.{all-front, all-most, rest-le, name-front, name-most, inside, closed-at, closed-front}
 use Rattle.tb_token.proofs.SignLaws.{sign-single, sign-pair, sign-short}
 

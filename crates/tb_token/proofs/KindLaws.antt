@@ -1,12 +1,12 @@
 -- The first byte of a token tells its class, and its bytes tell its kind.
-use Rattle.std.proofs.Common.{◌≡◌, ℕ, Bool, true, false, cond, not, ◌==◌, ◌&&◌, List, [], ◌∷◌, refl, sym, ap, ◌∙◌, arith, eqb-true}
+use Rattle.std.proofs.Common.{◌≡◌, ℕ, Bool, true, false, cond, not, ◌==◌, List, [], ◌∷◌, refl, sym, ap, ◌∙◌, arith, eqb-true}
 use Rattle.std.specs.Prelude.{nat_lt, length, codes}
 use Rattle.std.specs.List.{list_all}
 use Rattle.std.proofs.lemmas.Bool.{and_parts}
 use Rattle.std.proofs.lemmas.Bool.Decides.{nat_tests}
 use Rattle.tb_token.specs.Bytes.{is_blank, is_digit, is_quote, starts_name}
 use Rattle.tb_token.specs.Names.{is_name, is_word, all_go_on}
-use Rattle.tb_token.specs.Kinds.{is_token, is_variable, is_number, is_quoted, is_closed, is_text_test, is_none, signs}
+use Rattle.tb_token.specs.Kinds.{is_token, is_closed, is_text_test, signs}
 use Rattle.tb_token.specs.declared.token.Kind.{Kind}
 use Rattle.tb_token.specs.declared.token.Kind.TheVariants.{Name, Word, Variable, Number, Quoted, TextTest, Sign}
 use Rattle.tb_token.proofs.AmongLaws.{among-passes, word-passes, not-true}

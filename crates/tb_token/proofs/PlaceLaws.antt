@@ -1,8 +1,8 @@
 -- One step of a cut: a blank, a token, or the end.
-use Rattle.std.proofs.Common.{◌≡◌, ℕ, suc, ◌+◌, ◌-◌, ◌<◌, ◌≤◌, Bool, true, false, cond, List, [], ◌∷◌, ◌++◌, length, take, drop, get_or, Option, Some, None, refl, sym, ap, ◌∙◌, subst, arith, length-drop}
+use Rattle.std.proofs.Common.{◌≡◌, ℕ, ◌+◌, ◌-◌, ◌<◌, ◌≤◌, Bool, true, false, cond, List, [], ◌∷◌, length, take, drop, get_or, Option, Some, None, refl, sym, subst, arith, length-drop}
 use Rattle.std.proofs.lemmas.List.{drop_more, drop-drop, drop_all, take_all}
 use Rattle.tb_token.specs.Bytes.{is_blank, is_quote}
-use Rattle.tb_token.specs.Cuts.{IsLongest, BeginsNone, AreCut, at_end, behind_blank, behind_token, at_byte, at_quote, token}
+use Rattle.tb_token.specs.Cuts.{BeginsNone, AreCut, at_end, behind_blank, behind_token, at_byte, at_quote, token}
 use Rattle.tb_token.specs.Fronts.{fault_at, BeginsWith}
 use Rattle.tb_token.specs.declared.token.Token.{Token}
 use Rattle.tb_token.specs.declared.fault.LexFault.{LexFault}

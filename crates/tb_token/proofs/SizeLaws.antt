@@ -1,12 +1,11 @@
 -- How long the longest token of each class is.
-use Rattle.std.proofs.Common.{◌≡◌, ℕ, zero, suc, ◌+◌, ◌<◌, ◌≤◌, Bool, true, false, cond, not, ◌==◌, ◌&&◌, ◌||◌, List, [], ◌∷◌, ◌++◌, length, take, drop, refl, sym, ap, ◌∙◌, arith, eqb-true}
+use Rattle.std.proofs.Common.{◌≡◌, ℕ, zero, suc, ◌+◌, ◌<◌, ◌≤◌, Bool, true, false, cond, not, ◌==◌, ◌&&◌, ◌||◌, List, [], ◌∷◌, length, take, refl, arith}
 use Rattle.std.specs.List.{list_all, prefix_len, position_or_len}
 use Rattle.std.proofs.lemmas.Bool.{and_parts, and_from}
 use Rattle.tb_token.specs.Bytes.{is_digit, starts_name}
 use Rattle.tb_token.specs.Names.{goes_on, begins_name, all_go_on, is_name}
 use Rattle.tb_token.specs.Kinds.{is_closed, is_none}
 use Rattle.tb_token.specs.Fronts.{rest_len}
-use Rattle.tb_token.proofs.AmongLaws.{or-by}
 
 -- Bytes that all pass.
 

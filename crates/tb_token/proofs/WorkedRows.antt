@@ -1,8 +1,8 @@
 -- Rows worked out by hand: what the definitions come to.
 use Rattle.std.proofs.Common.{◌≡◌, true, false, refl, ◌∷◌, []}
-use Rattle.std.specs.Prelude.{codes, Some, None}
+use Rattle.std.specs.Prelude.{codes, None}
 use Rattle.tb_token.specs.Names.{is_name, is_word}
-use Rattle.tb_token.specs.Kinds.{is_token, is_variable, is_quoted, is_number}
+use Rattle.tb_token.specs.Kinds.{is_token}
 use Rattle.tb_token.specs.Fronts.{front_of, found}
 use Rattle.tb_token.specs.declared.token.Kind.TheVariants.{Name, Word, Variable, Number, Quoted, TextTest, Sign}
 

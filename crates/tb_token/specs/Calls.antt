@@ -14,7 +14,8 @@ Cuts text (Err f) = (f ≡ NoMemory) ⊎ ((ts : List Token) × IsCut text ts (So
 -- a text is cut in one way
 abbrev pub HasOneCut : List ℕ → Type 0
 HasOneCut text =
-    (ts us : List Token) (f g : Option LexFault) → IsCut text ts f → IsCut text us g → (ts ≡ us) × (f ≡ g)
+    (ts us : List Token) (f g : Option LexFault) → IsCut text ts f → IsCut text us g
+    → (ts ≡ us) × (f ≡ g)
 
 -- each token begins at the end of the one before it or behind, has a byte or more, and ends within
 abbrev pub Rise : ℕ → ℕ → List Token → Type 0

@@ -25,7 +25,8 @@ rest_len [] = 0
 rest_len (b ∷ bs) = if goes_on b bs then 1 + rest_len bs else 0
 
 abbrev pub begins_text_test : List ℕ → Bool
-begins_text_test bytes = starts_with nat_eq bytes (codes "text()") || starts_with nat_eq bytes (codes "TEXT()")
+begins_text_test bytes =
+    starts_with nat_eq bytes (codes "text()") || starts_with nat_eq bytes (codes "TEXT()")
 
 -- the token of bytes whose longest name has this size
 abbrev pub named : List ℕ → ℕ → Option Front

@@ -35,9 +35,10 @@ is_text_test bytes = is_among bytes (codes "text()" ∷ codes "TEXT()" ∷ [])
 
 abbrev pub signs : List (List ℕ)
 signs =
-    codes "//" ∷ codes "/>" ∷ codes "/" ∷ codes "</" ∷ codes "<=" ∷ codes "<" ∷ codes ">=" ∷ codes ">"
-    ∷ codes "!=" ∷ codes "!" ∷ codes "=" ∷ codes ":=" ∷ codes "(" ∷ codes ")" ∷ codes "[" ∷ codes "]"
-    ∷ codes "{" ∷ codes "}" ∷ codes "," ∷ codes "@" ∷ codes "*" ∷ codes "-" ∷ codes "+" ∷ codes "?" ∷ []
+    codes "//" ∷ codes "/>" ∷ codes "/" ∷ codes "</" ∷ codes "<=" ∷ codes "<"
+    ∷ codes ">=" ∷ codes ">" ∷ codes "!=" ∷ codes "!" ∷ codes "=" ∷ codes ":="
+    ∷ codes "(" ∷ codes ")" ∷ codes "[" ∷ codes "]" ∷ codes "{" ∷ codes "}"
+    ∷ codes "," ∷ codes "@" ∷ codes "*" ∷ codes "-" ∷ codes "+" ∷ codes "?" ∷ []
 
 -- the bytes are a token of this kind
 abbrev pub is_token : Kind → List ℕ → Bool

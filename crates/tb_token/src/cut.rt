@@ -11,7 +11,7 @@ use crate::front::Front;
 use crate::token::Token;
 use std::alloc::Global;
 
-/// The longest tokens of the text, or the first place at which none begins. One pass over the bytes.
+/// The longest tokens of the text, or the first place at which none begins, in one pass.
 #[tactic(auto, using(crate::proofs::CutLaws::one_cut))]
 pub fn tokens(alloc: Global, text: &[u8]) -> Result<Vec<Token>, LexFault>
     requires { length text.now ≤ 65536 }

@@ -1,7 +1,7 @@
 //! The tokens of queries.
 //!
-//! Readers of queries call it. What is proved is that `tokens` cuts a text into its longest tokens, or
-//! finds the first place at which none begins (`cut`), and that there is one such cut (`once`).
+//! Readers of queries call it. What is proved is that `tokens` cuts a text into its longest tokens,
+//! or finds the first place at which none begins (`cut`), and that there is one such cut (`once`).
 #![tactic(auto)]
 
 mod bytes;

@@ -1,6 +1,5 @@
 -- Each turn takes a blank or a token, and what is left is cut from there on.
 use Rattle.std.proofs.Common.{◌∙◌, sym, arith, append_assoc, append-nil, None, []}
-use Rattle.tb_token.specs.Cuts.{IsCut}
 use Rattle.tb_token.proofs.CutLaws.{rise-of_cut}
 use Rattle.tb_token.proofs.PlaceLaws.{blank-cut, token-within, token-cut, end-cut}
 use Rattle.tb_token.proofs.cut.tokens.Goals as goal

@@ -1,4 +1,4 @@
-use Rattle.std.proofs.Common.{◌≡◌, ◌-◌, ◌≤◌, ◌++◌, List, Option, drop, length}
+use Rattle.std.proofs.Common.{◌-◌, ◌≤◌, ◌++◌, List, Option, drop, length}
 use Rattle.tb_token.specs.Cuts.{AreCut, IsCut}
 use Rattle.tb_token.specs.declared.token.Token.{Token}
 use Rattle.tb_token.specs.declared.fault.LexFault.{LexFault}
