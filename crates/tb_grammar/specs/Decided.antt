@@ -22,8 +22,8 @@ all_starts [] = []
 all_starts (p ∷ ps) = starts p (all_starts ps)
 
 -- Whether the next letter tells how to read the part, where `behind` may stand behind it and
--- `follow n` behind what rule n says. Each choice is between parts that begin apart, or between a part
--- and what is behind it, and a part that may be left out is never empty by itself.
+-- `follow n` behind what rule n says. Each choice is between parts that begin apart, or between a
+-- part and what is behind it, and a part that may be left out is never empty by itself.
 abbrev pub is_decided : (ℕ → List ℕ) → List ℕ → Part → Bool
 is_decided follow behind (one c) = is_some c
 is_decided follow behind (both p q) =

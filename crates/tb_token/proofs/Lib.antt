@@ -5,4 +5,6 @@ pub mod SignLaws
 pub mod FrontLaws
 pub mod CutLaws
 pub mod PlaceLaws
+pub mod QueryLaws
 pub mod WorkedRows
+pub mod QueryRows

@@ -3,7 +3,7 @@ use Rattle.std.proofs.Common.{◌≡◌, ℕ, ◌+◌, ◌-◌, ◌<◌, ◌≤�
 use Rattle.std.proofs.lemmas.List.{drop_more, drop-drop, drop_all, take_all}
 use Rattle.tb_token.specs.Bytes.{is_blank, is_quote}
 use Rattle.tb_token.specs.Cuts.{BeginsNone, AreCut, at_end, behind_blank, behind_token, at_byte, at_quote, token}
-use Rattle.tb_token.specs.Fronts.{fault_at, BeginsWith}
+use Rattle.tb_token.specs.Places.{fault_at, BeginsWith}
 use Rattle.tb_token.specs.declared.token.Token.{Token}
 use Rattle.tb_token.specs.declared.fault.LexFault.{LexFault}
 use Rattle.tb_token.specs.declared.fault.LexFault.TheVariants.{BadByte, OpenString}

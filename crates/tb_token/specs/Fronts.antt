@@ -1,15 +1,12 @@
 -- The longest token at the front of bytes, as the program finds it.
-use Rattle.std.specs.Prelude.{◌≡◌, ℕ, ◌+◌, ◌-◌, ◌<◌, Bool, ◌&&◌, ◌||◌, ◌==◌, nat_eq, nat_lt, if◌then◌else◌, List, [], ◌∷◌, length, take, Option, Some, None, Result, Ok, Err, codes}
+use Rattle.std.specs.Prelude.{ℕ, ◌+◌, Bool, ◌&&◌, ◌||◌, ◌==◌, nat_eq, nat_lt, if◌then◌else◌, List, [], ◌∷◌, length, take, Option, Some, None, codes}
 use Rattle.std.specs.List.{prefix_len, position_or_len, starts_with, list_any}
 use Rattle.tb_token.specs.Bytes.{is_digit, is_quote, starts_name}
 use Rattle.tb_token.specs.Names.{goes_on, is_word}
-use Rattle.tb_token.specs.Cuts.{IsLongest, BeginsNone, AreCut}
+use Rattle.tb_token.specs.Cuts.{IsLongest, BeginsNone}
 use Rattle.tb_token.specs.declared.token.Kind.{Kind}
 use Rattle.tb_token.specs.declared.token.Kind.TheVariants.{Name, Word, Variable, Number, Quoted, TextTest, Sign}
-use Rattle.tb_token.specs.declared.token.Token.{Token}
 use Rattle.tb_token.specs.declared.front.Front.{Front}
-use Rattle.tb_token.specs.declared.fault.LexFault.{LexFault}
-use Rattle.tb_token.specs.declared.fault.LexFault.TheVariants.{BadByte, OpenString}
 
 -- what was found at the front: the longest token, or that there is none
 abbrev pub Finds : List ℕ → Option Front → Type 0
@@ -70,18 +67,3 @@ front_of (b ∷ bs) =
     else (if is_digit b then found Number (1 + prefix_len is_digit bs)
     else (if is_quote b then quoted b bs
     else (if b == 36 then variable bs else sign b bs)))
-
--- the fault at a byte where no token begins
-abbrev pub fault_at : ℕ → ℕ → LexFault
-fault_at b at = if is_quote b then OpenString at else BadByte at
-
--- the longest token at the front of the bytes from this place on
-pub record BeginsWith (at : ℕ) (bytes : List ℕ) (t : Token) : Type 0 where
-  pub from : t.from ≡ at
-  pub some : t.from < t.to
-  pub longest : IsLongest bytes t.kind (t.to - at)
-
--- what stands at the front of the bytes from this place on: a token, or a fault
-abbrev pub StandsAt : ℕ → List ℕ → Result Token LexFault → Type 0
-StandsAt at bytes (Ok t) = BeginsWith at bytes t
-StandsAt at bytes (Err f) = AreCut at bytes [] (Some f)

@@ -3,7 +3,7 @@
 ghost use Rattle.std.specs.Prelude.{◌≡◌, ◌≤◌, ◌<◌, false, IfOk, length, drop, slice_index};
 ghost use Rattle.tb_token.specs.Bytes.{is_blank};
 ghost use Rattle.tb_token.specs.Calls.{Cuts, HasOneCut, Rise};
-ghost use Rattle.tb_token.specs.Fronts.{StandsAt, fault_at};
+ghost use Rattle.tb_token.specs.Places.{StandsAt, fault_at};
 
 use crate::bytes::{is_blank, is_quote};
 use crate::fault::LexFault;

@@ -1,5 +1,5 @@
-//! What no clause says: that the words of the definitions mean what they should, by texts cut by hand,
-//! and that a text is cut with ample memory.
+//! What no clause says: that the words of the definitions mean what they should, by texts cut by
+//! hand, and that a text is cut with ample memory.
 
 use crate::LexFault::{BadByte, OpenString};
 use crate::{Kind, LexFault, Token, tokens};
