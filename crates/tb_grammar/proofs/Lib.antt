@@ -1,0 +1,6 @@
+pub mod LetterLaws
+pub mod StartLaws
+pub mod WordLaws
+pub mod ReadLaws
+pub mod TreeLaws
+pub mod WorkedRows

@@ -1,0 +1,27 @@
+-- What holds of each grammar that one token of look-ahead decides.
+use Rattle.std.specs.Prelude.{◌≡◌, ℕ, ◌+◌, ◌-◌, List, length, Some, None}
+use Rattle.tb_grammar.specs.Grammar.{Tok, Part, Rules}
+use Rattle.tb_grammar.specs.Words.{Tree, Derives, AreWord, IsWrongAt}
+use Rattle.tb_grammar.specs.Reading.{read}
+use Rattle.tb_grammar.specs.Decided.{AreDecided, AreGood}
+
+-- a list of tokens has one tree at most
+abbrev pub HaveOneTree : Type 0
+HaveOneTree =
+    (rules : Rules) (follow : ℕ → List ℕ) (ps : List Part) (s : List Tok) (vs ws : List Tree)
+    → AreGood rules follow → AreDecided follow ps
+    → Derives rules ps vs s → Derives rules ps ws s → vs ≡ ws
+
+-- the reading comes to the end of a word alone, and else stops at the token where the list is wrong
+abbrev pub ReadingIsRight : Type 0
+ReadingIsRight =
+    (rules : Rules) (follow : ℕ → List ℕ) (ps : List Part) (s : List Tok)
+    → AreGood rules follow → AreDecided follow ps
+    → (read rules s (Some ps) ≡ None → AreWord rules ps s)
+    × ((left : ℕ) → read rules s (Some ps) ≡ Some left → IsWrongAt rules ps s (length s - left + 1))
+
+-- whatever the grammar is, a list is wrong at one place
+abbrev pub IsWrongOnce : Type 0
+IsWrongOnce =
+    (rules : Rules) (ps : List Part) (s : List Tok) (k j : ℕ)
+    → IsWrongAt rules ps s k → IsWrongAt rules ps s j → k ≡ j

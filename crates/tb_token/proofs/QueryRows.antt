@@ -1,0 +1,68 @@
+-- Texts of queries worked out by hand: where each stops being the front of a query.
+use Rattle.std.proofs.Common.{◌≡◌, ℕ, zero, suc, true, false, List, [], ◌∷◌, take, drop, length, Option, Some, None, refl}
+use Rattle.std.specs.Prelude.{codes}
+use Rattle.tb_grammar.specs.Grammar.{Tok, Part}
+use Rattle.tb_grammar.specs.Reading.{read}
+use Rattle.tb_grammar.specs.Decided.{is_decided}
+use Rattle.tb_token.specs.Bytes.{is_blank}
+use Rattle.tb_token.specs.Fronts.{front_of}
+use Rattle.tb_token.specs.Letters.{letter_of}
+use Rattle.tb_token.specs.Patterns.{match_query}
+use Rattle.tb_token.specs.Paths.{written_path}
+use Rattle.tb_token.specs.Queries.{rules, follow, query}
+
+-- the tokens of a text without a fault, for so many bytes and tokens
+abbrev scan : ℕ → List ℕ → List Tok
+scan zero bytes = []
+scan (suc n) [] = []
+scan (suc n) (b ∷ bs) = elim (is_blank b) [
+  | true ↦ scan n bs
+  | false ↦ elim (front_of (b ∷ bs)) [
+    | None ↦ []
+    | Some front ↦ record { letter = letter_of front.kind (take front.size (b ∷ bs)); bytes = []; number = 0 } ∷ scan n (drop front.size (b ∷ bs))
+  ]
+]
+
+abbrev left_of : Part → List ℕ → Option ℕ
+left_of part text = read rules (scan (length text) text) (Some (part ∷ []))
+
+-- a text of ten tokens ends too early, so token 11 is missed
+pub early-is : left_of query (codes "FOR $x IN document(\"d\")//x RETURN") ≡ Some 0
+early-is = refl
+
+pub early-tokens : length (scan 99 (codes "FOR $x IN document(\"d\")//x RETURN")) ≡ 10
+early-tokens = refl
+
+-- no query begins with `)`, and the token is left
+pub paren-is : left_of query (codes ")") ≡ Some 1
+paren-is = refl
+
+-- blanks alone
+pub blanks-is : left_of query (codes " \n") ≡ Some 0
+blanks-is = refl
+
+pub match-is : left_of query (codes "MATCH document(\"n\") (//- a [>= 3 AND < -4]! (/? @b, //* text()), /+ FOR)") ≡ None
+match-is = refl
+
+-- `MATCH` without edges
+pub match-early : left_of match_query (codes "MATCH document(\"n\")") ≡ Some 0
+match-early = refl
+
+-- what a `MATCH` query alone may be
+pub match-no_clause : left_of match_query (codes "FOR $x") ≡ Some 2
+match-no_clause = refl
+
+pub flwor-is : left_of query (codes "for $b allowing empty in document(\"bib\")//BOOK let $a := $b/AUTHOR where $b/@YEAR > 1995 and count($a) = $b/n group by $g := $b order by $b/TITLE descending, max($b/x) return <hit year={$b/@YEAR} z=\"1\">{$b/TITLE}<n>{count($b/AUTHOR)}</n>\"t\"<m/></hit>") ≡ None
+flwor-is = refl
+
+-- two marks: the second is token 9 of 11
+pub mark-twice : left_of query (codes "MATCH document(\"n\") (//--a)") ≡ Some 3
+mark-twice = refl
+
+-- a literal stands on the right of a comparison alone
+pub literal-left : left_of query (codes "FOR $x IN $y/a WHERE 1 = $x RETURN $x") ≡ Some 5
+literal-left = refl
+
+-- a path as it is written has two choices that begin with one token
+pub written_path-undecided : is_decided follow [] written_path ≡ false
+written_path-undecided = refl
