@@ -218,7 +218,7 @@ count-few (cs ∷ css) few = omega (arith, few.0, count-length cs, count-few css
 pub schedule-few : (css : List (List Command)) (marks : ℕ) → AreRunnable css marks → length (schedule_of css) ≤ 640000
 schedule-few css marks r = omega (arith, steps-count css (schedule_of css) (schedule-within css), schedule-sum (λ c. 1) css marks r, count-few css r.commands_fit, r.sessions_fit)
 
--- Each load is done once.
+-- The steps have as many loads as the sessions.
 pub schedule-loads : (css : List (List Command)) (marks : ℕ) → AreRunnable css marks → loads_of (commands_of_steps css (schedule_of css)) ≡ loads_in css
 schedule-loads css marks r = omega (arith, loads-sum (commands_of_steps css (schedule_of css)), schedule-sum load_once css marks r, loads-sums css)
 

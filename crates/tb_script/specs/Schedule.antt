@@ -1,15 +1,15 @@
 -- The order in which the rounds do the commands, and what that order keeps.
-use Rattle.std.specs.Prelude.{◌≡◌, ℕ, zero, suc, ◌+◌, true, false, ◌==◌, if◌then◌else◌, List, [], ◌∷◌, ◌++◌, Option, map}
+use Rattle.std.specs.Prelude.{get_or, ◌≡◌, ℕ, zero, suc, ◌+◌, true, false, ◌==◌, if◌then◌else◌, List, [], ◌∷◌, ◌++◌, Option, map}
 use Rattle.std.specs.List.{slice_get}
 use Rattle.std.specs.Option.{option_to_list}
-use Rattle.std.proofs.Common.{get_or}
 use Rattle.tb_script.specs.Rounds.{is_among, can_go, once_done, told_behind, told_in_round, left_in_round, total, numbered}
 use Rattle.tb_script.specs.declared.command.Command.{Command}
 use Rattle.tb_script.specs.declared.command.Command.TheVariants.{Tell, Hear}
 use Rattle.tb_script.specs.declared.turn.Turn.{Turn}
 use Rattle.tb_script.specs.declared.turnstep.Turnstep.{Turnstep}
 
--- the step of a session's turn, or none where its next command can't be done
+-- The step of a session's turn, or none where its next command can't be done. What stands as a line here
+-- is the command's number, from 0 (`numbered`).
 abbrev pub steps_behind : ℕ → List ℕ → List Turn → List Turnstep
 steps_behind session told [] = []
 steps_behind session told (t ∷ ts) =
