@@ -25,15 +25,15 @@ use Rattle.tb_top.specs.Transcript.{block_of, blocks_of, history_part}
 use Rattle.tb_top.specs.Running.{Progress, Does, begun, at_start, ended}
 
 -- the answers of events, and what they leave, one after the other
-run-append : (w : State) (es fs : List Event) → run w (es ++ fs) ≡ run w es ++ run (after_all w es) fs
+pub run-append : (w : State) (es fs : List Event) → run w (es ++ fs) ≡ run w es ++ run (after_all w es) fs
 run-append w [] fs = refl
 run-append w (e ∷ es) fs = ap (λ os. answer w e ∷ os) (run-append (after w e) es fs)
 
-after_all-append : (w : State) (es fs : List Event) → after_all w (es ++ fs) ≡ after_all (after_all w es) fs
+pub after_all-append : (w : State) (es fs : List Event) → after_all w (es ++ fs) ≡ after_all (after_all w es) fs
 after_all-append w [] fs = refl
 after_all-append w (e ∷ es) fs = after_all-append (after w e) es fs
 
-changes_behind-append : (cs : List Change) (ds es : List Deed) → changes_behind cs (ds ++ es) ≡ changes_behind (changes_behind cs ds) es
+pub changes_behind-append : (cs : List Change) (ds es : List Deed) → changes_behind cs (ds ++ es) ≡ changes_behind (changes_behind cs ds) es
 changes_behind-append cs [] es = refl
 changes_behind-append cs (d ∷ ds) es = changes_behind-append (cs ++ change_by cs d.session d.command d.result) ds es
 

@@ -16,3 +16,4 @@ pub mod SettledLaws
 pub mod Completeness
 pub mod TranscriptRows
 pub mod RunLaws
+pub mod UniqueLaws
