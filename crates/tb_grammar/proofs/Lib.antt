@@ -3,4 +3,5 @@ pub mod StartLaws
 pub mod WordLaws
 pub mod ReadLaws
 pub mod TreeLaws
+pub mod PlaceLaws
 pub mod WorkedRows

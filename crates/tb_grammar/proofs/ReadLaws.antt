@@ -63,7 +63,7 @@ module _ (rules : Rules) (t : Tok) (s : List Tok) where
   after-leads (p ∷ ps) = takes-leads p ps (after rules ps t.letter) (after-leads ps)
 
 -- what a filled part takes does not depend on what is behind it
-takes-filled : (rules : Rules) (p : Part) (x : ℕ) (ps : List Part) (o u : Option (List Part)) → is_filled p ≡ true → takes rules p x ps o ≡ takes rules p x ps u
+pub takes-filled : (rules : Rules) (p : Part) (x : ℕ) (ps : List Part) (o u : Option (List Part)) → is_filled p ≡ true → takes rules p x ps o ≡ takes rules p x ps u
 takes-filled rules (one c) x ps o u filled = refl
 takes-filled rules (both p q) x ps o u filled =
     ⊎_elim

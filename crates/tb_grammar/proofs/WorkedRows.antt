@@ -1,8 +1,8 @@
 -- Rows worked out by hand: a list of letters in parentheses, `( a , a )`, in which such lists may stand.
-use Rattle.std.proofs.Common.{◌≡◌, ℕ, suc, ◌+◌, zero, true, false, List, [], ◌∷◌, map, Some, None, refl}
-use Rattle.tb_grammar.specs.Grammar.{Tok, Part, one, both, either, many, maybe, opened, Rules, row}
+use Rattle.std.proofs.Common.{◌≡◌, ℕ, false, List, [], ◌∷◌, map, Some, None, refl}
+use Rattle.tb_grammar.specs.Grammar.{Tok, Part, one, both, either, many, opened, Rules, row}
 use Rattle.tb_grammar.specs.Reading.{read}
-use Rattle.tb_grammar.specs.Decided.{is_decided, AreDecided, AreGood, is_easy}
+use Rattle.tb_grammar.specs.Decided.{is_decided, AreDecided, AreGood}
 
 -- the letters 1 `(`, 2 `)`, 3 `,`, 4 `a`
 abbrev nested : Part

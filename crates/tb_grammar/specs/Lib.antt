@@ -4,4 +4,5 @@ pub mod Grammar
 pub mod Words
 pub mod Reading
 pub mod Decided
+pub mod Places
 pub mod Laws

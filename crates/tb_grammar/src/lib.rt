@@ -1,4 +1,4 @@
-//! Grammars over tokens: their words, the trees of these, and where a list that is no word is wrong.
+//! Grammars over tokens: their words and trees, and where a list that is no word is wrong.
 //!
 //! Readers of query texts state their clauses in its words. What is proved is that one token of
 //! look-ahead reads a grammar that it decides, with one tree (`tree`), up to the least token that

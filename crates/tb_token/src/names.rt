@@ -48,57 +48,32 @@ pub fn begins_text_test(bytes: &[u8]) -> bool
     bytes.starts_with(b"text()") || bytes.starts_with(b"TEXT()")
 }
 
-/// Whether the name is a word of the language.
+/// Whether the name is a word of the language. It is compared with the words of its length alone.
 pub fn is_word(name: &[u8]) -> bool
     ensures { result ≡ is_word name.now }
 {
-    is_among(
-        name,
-        &[
-            b"FOR",
-            b"LET",
-            b"IN",
-            b"ALLOWING",
-            b"EMPTY",
-            b"WHERE",
-            b"AND",
-            b"GROUP",
-            b"ORDER",
-            b"BY",
-            b"ASCENDING",
-            b"DESCENDING",
-            b"RETURN",
-            b"MATCH",
-            b"DOCUMENT",
-            b"COUNT",
-            b"SUM",
-            b"MIN",
-            b"MAX",
-        ],
-    ) || is_among(
-        name,
-        &[
-            b"for",
-            b"let",
-            b"in",
-            b"allowing",
-            b"empty",
-            b"where",
-            b"and",
-            b"group",
-            b"order",
-            b"by",
-            b"ascending",
-            b"descending",
-            b"return",
-            b"match",
-            b"document",
-            b"count",
-            b"sum",
-            b"min",
-            b"max",
-        ],
-    )
+    match name.len() {
+        2 => is_among(name, &[b"IN", b"BY", b"in", b"by"]),
+        3 => is_among(
+            name,
+            &[
+                b"FOR", b"LET", b"AND", b"SUM", b"MIN", b"MAX", b"for", b"let", b"and", b"sum",
+                b"min", b"max",
+            ],
+        ),
+        5 => is_among(
+            name,
+            &[
+                b"EMPTY", b"WHERE", b"GROUP", b"ORDER", b"MATCH", b"COUNT", b"empty", b"where",
+                b"group", b"order", b"match", b"count",
+            ],
+        ),
+        6 => is_among(name, &[b"RETURN", b"return"]),
+        8 => is_among(name, &[b"ALLOWING", b"DOCUMENT", b"allowing", b"document"]),
+        9 => is_among(name, &[b"ASCENDING", b"ascending"]),
+        10 => is_among(name, &[b"DESCENDING", b"descending"]),
+        _ => false,
+    }
 }
 
 fn is_among(name: &[u8], words: &[&[u8]]) -> bool
