@@ -10,7 +10,8 @@ use Rattle.tb_script.specs.declared.fault.ScriptFault.{ScriptFault}
 use Rattle.tb_script.specs.declared.fault.ScriptFault.TheVariants.{InputTooLong}
 use Rattle.tb_top.specs.Single.{IsBuilt, AreBuilt}
 use Rattle.tb_top.specs.Tasks.{Spells}
-use Rattle.tb_top.specs.Calls.{SourceMoved, SinkMoved, HasFailed, Settled, ReadAll, ReadTooMuch, ReadUnbuilt}
+use Rattle.tb_top.specs.Calls.{Settled, ReadUnbuilt}
+use Rattle.tb_top.specs.Moved.{SourceMoved, SinkMoved, HasFailed, ReadAll, ReadTooMuch}
 use Rattle.tb_top.specs.declared.task.Task.{Task}
 use Rattle.tb_top.specs.declared.status.Status.{Status}
 use Rattle.tb_top.specs.declared.status.Status.TheVariants as status

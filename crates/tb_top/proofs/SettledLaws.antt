@@ -4,7 +4,8 @@ use Rattle.tb_script.specs.Calls.{IsReadAs}
 use Rattle.tb_script.specs.declared.command.Workload.{Workload}
 use Rattle.tb_top.specs.Single.{AreBuilt}
 use Rattle.tb_top.specs.Tasks.{Spells}
-use Rattle.tb_top.specs.Calls.{SourceMoved, SinkMoved, ReadAll, Published, IsOutput, Settled}
+use Rattle.tb_top.specs.Calls.{IsOutput, Settled}
+use Rattle.tb_top.specs.Moved.{SourceMoved, SinkMoved, ReadAll, Published}
 use Rattle.tb_top.specs.declared.task.Task.{Task}
 use Rattle.tb_top.specs.declared.status.Status.{Status}
 use Rattle.tb_top.specs.declared.status.Status.TheVariants as status

@@ -17,8 +17,8 @@ pub record Answer : Type 0 where
 abbrev pub lines_of : Edges → List Offers → List ℕ
 lines_of edges found = flat_map (λ offers. printed_node (witness_tree edges offers)) found
 
--- the witness trees of the edges over a document, in the order of the witnesses; none where there is
--- no document
+-- the witness trees of the edges over a document, in the order of the witnesses; none where there
+-- is no document
 abbrev pub answer_of : Edges → Option Plain → Answer
 answer_of edges None = record { trees = 0; lines = [] }
 answer_of edges (Some root) =

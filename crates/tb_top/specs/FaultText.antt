@@ -1,5 +1,5 @@
--- How faults are printed: the name of the variant in small letters with `-` between its words, and the
--- number of the line.
+-- How faults are printed: the name of the variant in small letters with `-` between its words, and
+-- the number of the line.
 use Rattle.std.specs.Prelude.{ℕ, List, [], ◌++◌, codes, decimal}
 use Rattle.tb_esis.specs.declared.fault.EsisFault.{EsisFault}
 use Rattle.tb_esis.specs.declared.fault.EsisFault.TheVariants as esis

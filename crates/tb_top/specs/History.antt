@@ -3,8 +3,8 @@ use Rattle.std.specs.Prelude.{ℕ, ◌+◌, ◌==◌, if◌then◌else◌, List,
 use Rattle.std.specs.Str.{bytes_eq}
 use Rattle.tb_tree.specs.Plain.{Plain}
 
--- A load that was accepted: its session, from 0, which of the session's accepted loads it is, from 1,
--- the document's name, and the tree that its body is read as.
+-- A load that was accepted: its session, from 0, which of the session's accepted loads it is, from
+-- 1, the document's name, and the tree that its body is read as.
 pub record Change : Type 0 where
   pub session : ℕ
   pub count : ℕ
@@ -22,7 +22,8 @@ abbrev pub or_earlier : Option Plain → Option Plain → Option Plain
 or_earlier (Some later) earlier = Some later
 or_earlier None earlier = earlier
 
--- The document of a name: the tree of the last change of that name, the oldest change standing first.
+-- The document of a name: the tree of the last change of that name, the oldest change standing
+-- first.
 abbrev pub document_in : List Change → List ℕ → Option Plain
 document_in [] name = None
 document_in (c ∷ cs) name =

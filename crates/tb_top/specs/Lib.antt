@@ -17,8 +17,10 @@ pub mod Cuts
 pub mod Queries
 pub mod Pairs
 pub mod Joined
+pub mod Kept
 pub mod Running
 pub mod Pieces
 pub mod Status
+pub mod Moved
 pub mod Calls
 pub mod Outcomes

@@ -18,8 +18,8 @@ abbrev pub begins_name : List ℕ → Bool
 begins_name [] = false
 begins_name (b ∷ bs) = starts_name b
 
--- whether a name goes on with the byte: a byte that may begin one, a digit, `-` or `.`; or `:`, where a
--- byte that may begin a name follows
+-- whether a name goes on with the byte: a byte that may begin one, a digit, `-` or `.`; or `:`,
+-- where a byte that may begin a name follows
 abbrev pub goes_on : ℕ → List ℕ → Bool
 goes_on b rest = starts_name b || is_between 48 57 b || b == 45 || b == 46 || (b == 58 && begins_name rest)
 

@@ -8,7 +8,8 @@ pub data Axis : Type 0 where
   Child : Axis
   Descendant : Axis
 
--- `-`, `?`, `+`, `*`: each match alone; each alone, or none; all together, at least one; all together
+-- `-`, `?`, `+`, `*`: each match alone; each alone, or none; all together, at least one; all
+-- together
 pub data Mark : Type 0 where
   One : Mark
   Optional : Mark

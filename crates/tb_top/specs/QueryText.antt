@@ -1,5 +1,5 @@
--- The text of the one query that is built: `MATCH document("document") (//- first (//- second))` on a
--- line of its own, with these blanks and no others.
+-- The text of the one query that is built: `MATCH document("document") (//- first (//- second))` on
+-- a line of its own, with these blanks and no others.
 use Rattle.std.specs.Prelude.{◌≡◌, ℕ, ◌≤◌, List, ◌++◌, IsTrue, codes, length}
 use Rattle.tb_script.specs.Forms.{is_label}
 use Rattle.tb_top.specs.Names.{is_query_name}

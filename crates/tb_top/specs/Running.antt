@@ -1,40 +1,17 @@
 -- What the commands that are done leave: words of private clauses.
 use Rattle.std.specs.Prelude.{◌≡◌, ℕ, ◌+◌, ◌<◌, ◌≤◌, List, [], ◌++◌, map, length, get_or, set, Some, IsSome, None, codes, decimal}
-use Rattle.std.specs.Option.{option_map}
 use Rattle.std.specs.List.{flat_map, range_with_len}
-use Rattle.std.specs.BTreeMap.{get}
-use Rattle.std.specs.Ordering.{nat_cmp}
-use Rattle.std.specs.Cmp.Lexicographic.{slice_cmp}
-use Rattle.std.specs.Arc.{arc_value}
-use Rattle.tb_tree.specs.View.{plain_of}
 use Rattle.tb_script.specs.declared.command.Command.{Command}
 use Rattle.tb_script.specs.declared.command.Command.TheVariants as command
 use Rattle.tb_script.specs.declared.command.Workload.{Workload}
 use Rattle.tb_script.specs.declared.turnstep.Turnstep.{Turnstep}
 use Rattle.tb_core.specs.World.{State, run, after_all, told_at}
-use Rattle.tb_top.specs.History.{Change, count_of, document_in}
+use Rattle.tb_top.specs.History.{Change}
+use Rattle.tb_top.specs.Kept.{changes_in}
 use Rattle.tb_top.specs.Deeds.{Record, event_of, change_by, IsResult}
 use Rattle.tb_top.specs.Single.{IsBuilt, world_of}
 use Rattle.tb_top.specs.Transcript.{block_of, history_part}
-use Rattle.tb_top.specs.declared.history.Change as change_code
-use Rattle.tb_top.specs.declared.history.History as history_code
 use Rattle.tb_top.specs.declared.running.Running as running_code
-
-abbrev pub change_in : change_code.Change → Change
-change_in c = record {
-  session = c.session;
-  count = c.count;
-  name = c.name;
-  tree = plain_of (arc_value c.store);
-}
-
-abbrev pub changes_in : history_code.History → List Change
-changes_in h = map change_in h.changes.items
-
--- the map has the documents of the whole history, and the counts are those of the sessions
-pub record IsKept (h : history_code.History) : Type 0 where
-  pub latest : (name : List ℕ) → option_map (λ store. plain_of (arc_value store)) (get (slice_cmp nat_cmp) h.latest name) ≡ document_in (changes_in h) name
-  pub counts : (session : ℕ) → get_or h.counts.items session 0 ≡ count_of session (changes_in h)
 
 -- the world of fronts, the changes so far, of how many sessions, and each session's part so far
 pub record Progress : Type 0 where
@@ -99,7 +76,8 @@ at_start w = record {
 abbrev pub ended : Progress → List ℕ
 ended p = flat_map (λ part. part ++ codes "end\n") p.parts ++ history_part p.changes
 
--- a line that ends with a number of changes: the command's number, a verb, a name, a word, that number
+-- a line that ends with a number of changes: the command's number, a verb, a name, a word, that
+-- number
 abbrev pub named_line : ℕ → List ℕ → List ℕ → List ℕ → ℕ → List ℕ
 named_line number verb name word front =
     decimal number ++ verb ++ name ++ word ++ decimal front ++ codes "\n"

@@ -20,8 +20,8 @@ step_of d = record { session = d.session; command = d.place }
 abbrev pub world_of : Workload → State
 world_of w = start (length w.sessions.items) w.marks (loads_in (commands_in w))
 
--- All commands are done, in the order of the rounds. Each event is answered its number by the world of
--- fronts, and each command comes to what it may over the whole history.
+-- All commands are done, in the order of the rounds. Each event is answered its number by the world
+-- of fronts, and each command comes to what it may over the whole history.
 pub record IsRun (w : Workload) (ds : List Deed) : Type 0 where
   pub order : map step_of ds ≡ schedule_of (commands_in w)
   pub commands : AllByRecursion (λ d. command_at (commands_in w) (step_of d) ≡ Some d.command) ds

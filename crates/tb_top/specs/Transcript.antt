@@ -24,7 +24,8 @@ abbrev pub answered_line : ℕ → ℕ → ℕ → List ℕ
 answered_line number front trees =
     decimal number ++ codes " query front " ++ decimal front ++ codes " trees " ++ decimal trees ++ codes "\n"
 
--- `I tell MARK front K` and `I hear MARK front K`: the session had seen, or has then seen, K changes
+-- `I tell MARK front K` and `I hear MARK front K`: the session had seen, or has then seen, K
+-- changes
 abbrev pub told_line : ℕ → List ℕ → ℕ → List ℕ
 told_line number name front =
     decimal number ++ codes " tell " ++ name ++ codes " front " ++ decimal front ++ codes "\n"
@@ -51,7 +52,8 @@ abbrev pub blocks_of : ℕ → List Deed → List ℕ
 blocks_of session ds =
     flat_map (λ d. block_of (d.place + 1) d.command d.result) (filter (λ d. d.session == session) ds)
 
--- `session N` and `end` around the blocks of the session, which is numbered from 1 here and from 0 else
+-- `session N` and `end` around the blocks of the session, which is numbered from 1 here and from 0
+-- else
 abbrev pub session_part : ℕ → List Deed → List ℕ
 session_part session ds =
     codes "session " ++ decimal (session + 1) ++ codes "\n" ++ blocks_of session ds ++ codes "end\n"

@@ -14,8 +14,8 @@ use crate::witness::witness_lines;
 use std::alloc::{AllocError, Global};
 use tb_label::Store;
 
-/// Appends the block of a query: command `number` is answered over the first `front` changes, of which
-/// the store is the document that the query names.
+/// Appends the block of a query: command `number` is answered over the first `front` changes, of
+/// which the store is the document that the query names.
 pub fn push_answer(
     alloc: Global,
     number: u64,

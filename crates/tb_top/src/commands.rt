@@ -1,7 +1,8 @@
 //! The commands, from words and bytes to what is written and a status.
 
 ghost use Rattle.std.specs.Prelude.{◌≡◌, length};
-ghost use Rattle.tb_top.specs.Calls.{Settled, Tells, Published};
+ghost use Rattle.tb_top.specs.Calls.{Settled};
+ghost use Rattle.tb_top.specs.Moved.{Tells, Published};
 ghost use Rattle.tb_top.specs.Pieces.{joined};
 
 use crate::outcome::{Outcome, outcome_of};
@@ -15,8 +16,8 @@ use tb_script::ScriptFault;
 /// Bytes of input that are read at most.
 const MOST_INPUT: usize = 67_108_864;
 
-/// Does the command `single` or `check`: reads a script from the source, and writes its transcript, or
-/// its refusals and counts, to the sink. It waits for nobody.
+/// Does the command `single` or `check`: reads a script from the source, and writes its transcript,
+/// or its refusals and counts, to the sink. It waits for nobody.
 pub fn settle<R: Threads + Sync, S: Source, K: Sink, G: Gate>(
     rt: &R,
     alloc: Global,

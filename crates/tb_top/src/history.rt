@@ -3,7 +3,7 @@
 ghost use Rattle.std.specs.Prelude.{◌≡◌, ◌+◌, ◌<◌, ◌∷◌, ◌++◌, [], IfOk, OnOk, length, option_map};
 ghost use Rattle.tb_tree.specs.View.{plain_of};
 ghost use Rattle.tb_top.specs.History.{count_of, document_in};
-ghost use Rattle.tb_top.specs.Running.{changes_in, IsKept};
+ghost use Rattle.tb_top.specs.Kept.{changes_in, IsKept};
 
 use std::alloc::{AllocError, Global};
 use std::collections::BTreeMap;
@@ -11,8 +11,8 @@ use std::sync::Arc;
 use tb_label::Store;
 use tb_tree::Bytes;
 
-/// An accepted load: its session, from 0, which of the session's accepted loads it is, from 1, and the
-/// document, labelled.
+/// An accepted load: its session, from 0, which of the session's accepted loads it is, from 1, and
+/// the document, labelled.
 #[derive(Drop)]
 pub struct Change {
     pub session: u32,

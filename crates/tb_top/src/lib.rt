@@ -1,8 +1,8 @@
 //! The commands of `timber`: from the words of a command line, a source and a sink to a status.
 //!
-//! Main calls `settle`, which does `single` and `check` for scripts whose queries are of two names. Its one
-//! clause, `Settled`, says by the status what was read and what was written, and rests on the definitions of
-//! naive witnesses, histories, runs and transcripts in `specs/`.
+//! Main calls `settle`, which does `single` and `check` for scripts whose queries are of two names.
+//! Its one clause, `Settled`, says by the status what was read and what was written, and rests on
+//! the definitions of naive witnesses, histories, runs and transcripts in `specs/`.
 #![tactic(auto)]
 
 mod answering;

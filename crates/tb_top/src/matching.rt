@@ -21,8 +21,8 @@ use tb_span::{Axis, Item, Pair, Steps};
 use tb_stackjoin::join_desc;
 use tb_tree::{Bytes, Test};
 
-/// A node of the first name and a node of the second below it, each by its number in document order,
-/// in which the root has 1.
+/// A node of the first name and a node of the second below it, each by its number in document
+/// order, in which the root has 1.
 #[derive(Clone, Copy, Debug, PartialEq, Eq)]
 pub struct Match {
     pub first: u32,
@@ -115,8 +115,9 @@ fn descendants_of(alloc: Global, list: &[Item], pairs: &[Pair]) -> Result<Vec<It
     Ok(items)
 }
 
-/// Puts the pairs in the order of their ancestors; those of one ancestor stay in the order that they have.
-/// Where no ancestor stands inside another they are in that order already, and left alone.
+/// Puts the pairs in the order of their ancestors; those of one ancestor stay in the order that
+/// they have. Where no ancestor stands inside another they are in that order already, and left
+/// alone.
 fn put_by_ancestor(pairs: &mut Vec<Pair>) -> Result<(), AllocError>
     ensures { OnOk result (AreByAncestor pairs.old.items pairs.new.items) }
 {

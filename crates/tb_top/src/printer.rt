@@ -5,7 +5,8 @@ ghost use Rattle.std.specs.List.{flat_map};
 ghost use Rattle.tb_top.specs.Pairs.{answer_by};
 ghost use Rattle.tb_top.specs.Transcript.{load_line, refused_line, answered_line, query_block, history_line};
 ghost use Rattle.tb_top.specs.FaultText.{esis_fault_text};
-ghost use Rattle.tb_top.specs.Running.{change_in, begun, named_line};
+ghost use Rattle.tb_top.specs.Running.{begun, named_line};
+ghost use Rattle.tb_top.specs.Kept.{change_in};
 
 use crate::fault_text::{esis_fault_line, esis_fault_name};
 use crate::history::Change;
@@ -32,8 +33,8 @@ pub fn push_session_line(session: u32, text: &mut Vec<u8>) -> Result<(), AllocEr
     Ok(())
 }
 
-/// Appends the line of a command that ends with a number of changes: its own number, its verb with a
-/// blank on both sides, a name, the word before the front with its blanks, and the front.
+/// Appends the line of a command that ends with a number of changes: its own number, its verb with
+/// a blank on both sides, a name, the word before the front with its blanks, and the front.
 fn push_named_line(
     number: u64,
     verb: &[u8],

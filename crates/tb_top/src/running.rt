@@ -12,7 +12,8 @@ ghost use Rattle.tb_script.specs.declared.command.Command.TheVariants as command
 ghost use Rattle.tb_script.specs.Runnable.{IsRunnable};
 ghost use Rattle.tb_top.specs.Single.{IsBuilt, world_of};
 ghost use Rattle.std.specs.List.{range_with_len};
-ghost use Rattle.tb_top.specs.Running.{progress_of, at_start, begun, IsKept, Stands, IsReadyFor, Does};
+ghost use Rattle.tb_top.specs.Running.{progress_of, at_start, begun, Stands, IsReadyFor, Does};
+ghost use Rattle.tb_top.specs.Kept.{IsKept};
 
 use crate::answering::push_answer;
 use crate::counts::loads_in;

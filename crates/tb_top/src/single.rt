@@ -7,7 +7,8 @@ ghost use Rattle.tb_script.specs.Schedule.{command_at};
 ghost use Rattle.tb_top.specs.Single.{AreBuilt, IsTranscript};
 ghost use Rattle.tb_top.specs.Transcript.{history_lines, history_part};
 ghost use Rattle.tb_top.specs.Pieces.{joined, text_in};
-ghost use Rattle.tb_top.specs.Running.{progress_of, change_in, ended};
+ghost use Rattle.tb_top.specs.Running.{progress_of, ended};
+ghost use Rattle.tb_top.specs.Kept.{change_in};
 
 use crate::history::Change;
 use crate::pieces::Pieces;

@@ -7,7 +7,8 @@ use std::sync::ledger::{Blank, Ledger};
 use std::test::Fail;
 use tb_span::{Label, NodeId, Steps};
 
-// Whether the first starts before the second, ends before the second starts, and stands one level below it.
+// Whether the first starts before the second, ends before the second starts, and stands one level
+// below it.
 fn compared<L: Ledger>(blank: Blank, one: &Label, other: &Label) -> (bool, bool, bool)
     requires name { blank.name ≡ L.name }
     requires parts { blank.parts ≡ L.parts }

@@ -71,7 +71,8 @@ const ALONE: &[u8] = b"(a\n)a\n";
 // Two elements b in two nested elements a.
 const NESTED: &[u8] = b"(a\n(a\n(b\n)b\n(b\n)b\n)a\n)a\n";
 
-// An element a with two nested elements b, an element b beside it, and an element a in b without one.
+// An element a with two nested elements b, an element b beside it, and an element a in b without
+// one.
 const BESIDE: &[u8] = b"(r\n(a\n(b\n(b\n)b\n)b\n)a\n(b\n(a\n)a\n)b\n)r\n";
 
 #[test]

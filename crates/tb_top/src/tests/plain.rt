@@ -29,8 +29,8 @@ pub fn matches(
     Ok(found)
 }
 
-/// Adds the matches of a node of the given number and of all nodes below it. Gives the number of the
-/// node that follows them.
+/// Adds the matches of a node of the given number and of all nodes below it. Gives the number of
+/// the node that follows them.
 #[cycle(firsts)]
 fn firsts_at(
     node: &Node,
@@ -79,7 +79,8 @@ fn firsts_below(
     Ok(number)
 }
 
-/// Adds the matches of a node with the nodes of the second name below it, where it has the first name.
+/// Adds the matches of a node with the nodes of the second name below it, where it has the first
+/// name.
 fn seconds_of(
     named: bool,
     inside: &[Node],

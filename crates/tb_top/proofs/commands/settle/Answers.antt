@@ -1,6 +1,6 @@
 -- What the script comes to is written.
 use Rattle.std.proofs.Common.{subst, arith, length, ◌≤◌}
-use Rattle.tb_top.specs.Calls.{SinkMoved, Published}
+use Rattle.tb_top.specs.Moved.{SinkMoved, Published}
 use Rattle.tb_top.specs.Pieces.{joined}
 use Rattle.tb_top.proofs.SettledLaws.{settled}
 use Rattle.tb_top.proofs.commands.settle.Goals as goal

@@ -3,7 +3,7 @@ use Rattle.std.proofs.Common.{ℕ, List, ◌++◌, map, codes, sym, ap, ap₂, �
 use Rattle.std.specs.List.{flat_map}
 use Rattle.std.proofs.lemmas.List.Folds.{flat_map-map}
 use Rattle.tb_top.specs.Transcript.{history_part}
-use Rattle.tb_top.specs.Running.{change_in}
+use Rattle.tb_top.specs.Kept.{change_in}
 use Rattle.tb_top.proofs.single.finish.Goals as goal
 
 pub returns : goal.returns

@@ -1,6 +1,6 @@
 use Rattle.std.proofs.Common.{◌≡◌, ◌+◌, ◌++◌, drop, map}
 use Rattle.tb_top.specs.Transcript.{history_lines}
-use Rattle.tb_top.specs.Running.{change_in}
+use Rattle.tb_top.specs.Kept.{change_in}
 use Rattle.tb_top.proofs.single.push_history_lines.Given as goal
 
 -- the lines so far, with those of the changes that are left, are all lines

@@ -1,6 +1,7 @@
 -- The commands so far are done, and those that are left can be done.
 use Rattle.std.proofs.Common.{take, drop}
-use Rattle.tb_top.specs.Running.{IsKept, progress_of}
+use Rattle.tb_top.specs.Running.{progress_of}
+use Rattle.tb_top.specs.Kept.{IsKept}
 use Rattle.tb_top.proofs.DoneLaws.{Done}
 use Rattle.tb_top.proofs.ReadyLaws.{Goes}
 use Rattle.tb_top.proofs.single.transcript.Given as goal

@@ -4,7 +4,7 @@ use Rattle.std.proofs.lemmas.List.{get_or_read, map-append}
 use Rattle.tb_tree.specs.Plain.{Plain}
 use Rattle.tb_tree.specs.View.{plain_of}
 use Rattle.tb_top.specs.History.{Change, count_of, document_in}
-use Rattle.tb_top.specs.Running.{change_in, changes_in}
+use Rattle.tb_top.specs.Kept.{change_in, changes_in}
 use Rattle.tb_top.proofs.HistoryLaws.{count_of-few, counts-more, latest-more}
 use Rattle.tb_top.proofs.history.History.add.Goals as goal
 

@@ -10,7 +10,8 @@ use Rattle.tb_top.specs.History.{document_in}
 use Rattle.tb_top.specs.Deeds.{answered}
 use Rattle.tb_top.specs.Queries.{query_by}
 use Rattle.tb_top.specs.Transcript.{query_block}
-use Rattle.tb_top.specs.Running.{progress_of, changes_in}
+use Rattle.tb_top.specs.Running.{progress_of}
+use Rattle.tb_top.specs.Kept.{changes_in}
 use Rattle.tb_top.proofs.QueryLaws.{query_in-text, query_in-some}
 use Rattle.tb_top.proofs.RunningLaws.{part-grows, does-look}
 use Rattle.tb_top.proofs.running.Running.query.Goals as goal
