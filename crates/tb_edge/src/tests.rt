@@ -101,3 +101,16 @@ fn a_call_fails_where_its_number_stands_among_the_failing(rt: HostRuntime) -> Re
     OpenGate.enter(1, 1);
     Ok(())
 }
+
+#[test]
+fn pieces_are_written_one_behind_the_other(rt: HostRuntime) -> Result<(), Fail> {
+    let alloc = rt.alloc();
+    let mut pieces = Vec::new(alloc);
+    for piece in ["ab", "", "cde"] {
+        pieces.push(piece.as_bytes().to_vec(alloc)?)?;
+    }
+    let mut sink = MemSink::new(alloc, 5, 2, Vec::new(alloc))?;
+    assert_eq!(rt; write_pieces(&mut sink, &pieces), Ok(()));
+    assert_eq!(rt; sink.held(), b"abcde".as_slice());
+    Ok(())
+}

@@ -17,3 +17,4 @@ pub mod Completeness
 pub mod TranscriptRows
 pub mod RunLaws
 pub mod UniqueLaws
+pub mod RunnableLaws

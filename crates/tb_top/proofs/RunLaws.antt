@@ -5,13 +5,15 @@ use Rattle.std.proofs.lemmas.List.{ext_get_or, length-map, get_or-map}
 use Rattle.std.proofs.lemmas.Simd.{map-map}
 use Rattle.std.proofs.lemmas.List.FromFn.{length-map-range_with_len, get_or-map-range_with_len}
 use Rattle.std.proofs.lemmas.Option.{slice_get-get_or}
-use Rattle.tb_script.specs.Runnable.{commands_in, IsRunnable}
+use Rattle.tb_script.specs.Runnable.{commands_in}
+use Rattle.tb_script.specs.Calls.{IsReadAs}
 use Rattle.tb_script.specs.Schedule.{command_at, numbers_of}
 use Rattle.tb_script.specs.declared.command.Command.{Command}
 use Rattle.tb_script.specs.declared.command.Command.TheVariants.{Query}
 use Rattle.tb_script.specs.declared.command.Workload.{Workload}
 use Rattle.tb_script.proofs.ScheduleLaws.{schedule-keeps}
 use Rattle.tb_top.specs.Deeds.{Deed}
+use Rattle.tb_top.proofs.RunnableLaws.{read-runnable}
 use Rattle.tb_top.specs.Single.{step_of, IsRun}
 
 -- the deeds of a session
@@ -67,11 +69,11 @@ same-elements (x ∷ xs) (y ∷ ys) e =
 
 -- The commands of a session are done once, in their order: first that their numbers run from 0, then that
 -- the deeds are of just these commands.
-pub run-places : (w : Workload) (ds : List Deed) → IsRunnable w → IsRun w ds → (session : ℕ) → map (λ d. d.place) (deeds_of session ds) ≡ range_with_len 0 (length (get_or (commands_in w) session []))
-run-places w ds runs is session = places-are session ds ∙ ap (numbers_of session) is.order ∙ schedule-keeps (commands_in w) w.marks runs session
+pub run-places : (bytes : List ℕ) (w : Workload) (ds : List Deed) → IsReadAs bytes w → IsRun w ds → (session : ℕ) → map (λ d. d.place) (deeds_of session ds) ≡ range_with_len 0 (length (get_or (commands_in w) session []))
+run-places bytes w ds read is session = places-are session ds ∙ ap (numbers_of session) is.order ∙ schedule-keeps (commands_in w) w.marks (read-runnable bytes w read) session
 
-pub run-keeps : (w : Workload) (ds : List Deed) → IsRunnable w → IsRun w ds → (session : ℕ) → map (λ d. d.command) (deeds_of session ds) ≡ get_or (commands_in w) session []
-run-keeps w ds runs is session =
+pub run-keeps : (bytes : List ℕ) (w : Workload) (ds : List Deed) → IsReadAs bytes w → IsRun w ds → (session : ℕ) → map (λ d. d.command) (deeds_of session ds) ≡ get_or (commands_in w) session []
+run-keeps bytes w ds read is session =
     let row = get_or (commands_in w) session [] in
     same-elements (map (λ d. d.command) (deeds_of session ds)) row
-    (map-map (λ c. Some c) (λ (d : Deed). d.command) (deeds_of session ds) ∙ commands-at (commands_in w) session ds is.commands ∙ ap (map (slice_get row)) (run-places w ds runs is session) ∙ elements row)
+    (map-map (λ c. Some c) (λ (d : Deed). d.command) (deeds_of session ds) ∙ commands-at (commands_in w) session ds is.commands ∙ ap (map (slice_get row)) (run-places bytes w ds read is session) ∙ elements row)

@@ -61,8 +61,8 @@ abbrev twice_deeds : List Deed
 twice_deeds =
     deed 0 0 (command.Load (codes "x") []) (loaded 1 nested) ∷ deed 1 0 (command.Load (codes "x") []) (loaded 2 alone) ∷ deed 0 1 (command.Load (codes "y") []) (loaded 3 nested) ∷ []
 
-pub twice-documents : document_at (history_of twice_deeds) 0 (codes "x") ∷ document_at (history_of twice_deeds) 1 (codes "x") ∷ document_at (history_of twice_deeds) 3 (codes "x") ∷ document_at (history_of twice_deeds) 2 (codes "y") ∷ []
-    ≡ None ∷ Some nested ∷ Some alone ∷ None ∷ []
+pub twice-documents : document_at (history_of twice_deeds) 0 (codes "x") ∷ document_at (history_of twice_deeds) 1 (codes "x") ∷ document_at (history_of twice_deeds) 2 (codes "x") ∷ document_at (history_of twice_deeds) 3 (codes "x") ∷ document_at (history_of twice_deeds) 2 (codes "y") ∷ []
+    ≡ None ∷ Some nested ∷ Some alone ∷ Some alone ∷ None ∷ []
 twice-documents = refl
 
 pub twice-transcript : transcript_of 2 twice_deeds

@@ -5,8 +5,8 @@ ghost use Rattle.std.specs.Prelude.{◌≡◌};
 use tb_script::ScriptFault;
 
 /// How a command ended. The causes are tried in the order words, reading, script, queries that
-/// aren't built, writing; want of memory may come in place of any of them before the first byte is
-/// written.
+/// aren't built, writing. Once the words are a command's and while the source hasn't failed, want of
+/// memory may come in place of any of them, before the first byte is written.
 #[derive(Clone, Copy, Debug, PartialEq, Eq)]
 pub enum Status {
     /// The result is written.

@@ -35,15 +35,26 @@ const WRONG_END: &[u8] = b"session\nload x\n(a\n)b\n.\nload y\n(a\n)a\n.\n";
 const WRONG_END_TRANSCRIPT: &[u8] =
     b"session 1\n1 load refused wrong-end 2\n2 load y at 1\nend\nhistory 1\n1 session 1 change 1 load y\nok\n";
 
+// A `hear` stands before its `tell`, and another hears less than its session has seen.
+const WAITS: &[u8] =
+    b"session\nhear m\nload a\n(x\n)x\n.\nsession\ntell m\nhear n\nload a\n(y\n)y\n.\nsession\nload b\n(z\n)z\n.\ntell n\nhear m\nquery\nMATCH document(\"a\") (//- x (//- x))\n.\n";
+
+const WAITS_TRANSCRIPT: &[u8] =
+    b"session 1\n1 hear m front 0\n2 load a at 2\nend\nsession 2\n1 tell m front 0\n2 hear n front 1\n3 load a at 3\nend\nsession 3\n1 load b at 1\n2 tell n front 1\n3 hear m front 1\n4 query front 3 trees 0\n.\nend\nhistory 3\n1 session 3 change 1 load b\n2 session 1 change 1 load a\n3 session 2 change 1 load a\nok\n";
+
+const IDLE_TRANSCRIPT: &[u8] = b"session 1\nend\nsession 2\nend\nhistory 0\nok\n";
+
 const STUCK: &[u8] = b"session\nhear b\ntell a\nsession\nhear a\ntell b\n";
 
 #[test]
 fn each_script_has_its_status_and_its_bytes(rt: HostRuntime) -> Result<(), Fail> {
-    let rows: [(&str, &[u8], Status, &[u8]); 12] = [
+    let rows: [(&str, &[u8], Status, &[u8]); 14] = [
         ("single", b"", Status::Ok, b"history 0\nok\n"),
         ("single", NESTED, Status::Ok, NESTED_TRANSCRIPT),
         ("single", MARKS, Status::Ok, MARKS_TRANSCRIPT),
         ("single", AGAIN, Status::Ok, AGAIN_TRANSCRIPT),
+        ("single", WAITS, Status::Ok, WAITS_TRANSCRIPT),
+        ("single", b"session\nsession\n", Status::Ok, IDLE_TRANSCRIPT),
         ("single", WRONG_END, Status::Ok, WRONG_END_TRANSCRIPT),
         (
             "check",
