@@ -8,3 +8,4 @@ pub mod PlaceLaws
 pub mod QueryLaws
 pub mod WorkedRows
 pub mod QueryRows
+pub mod WrongRows

@@ -1,36 +1,46 @@
 -- Texts of queries worked out by hand: where each stops being the front of a query.
-use Rattle.std.proofs.Common.{◌≡◌, ℕ, zero, suc, true, false, List, [], ◌∷◌, take, drop, length, Option, Some, None, refl}
+use Rattle.std.proofs.Common.{◌≡◌, ℕ, zero, suc, ◌+◌, ◌-◌, true, false, List, [], ◌∷◌, drop, length, Option, Some, None, refl}
 use Rattle.std.specs.Prelude.{codes}
 use Rattle.tb_grammar.specs.Grammar.{Tok, Part}
 use Rattle.tb_grammar.specs.Reading.{read}
 use Rattle.tb_grammar.specs.Decided.{is_decided}
 use Rattle.tb_token.specs.Bytes.{is_blank}
 use Rattle.tb_token.specs.Fronts.{front_of}
-use Rattle.tb_token.specs.Letters.{letter_of}
+use Rattle.tb_token.specs.Cuts.{token}
+use Rattle.tb_token.specs.Letters.{toks_of}
 use Rattle.tb_token.specs.Patterns.{match_query}
 use Rattle.tb_token.specs.Paths.{written_path}
 use Rattle.tb_token.specs.Queries.{rules, follow, query}
+use Rattle.tb_token.specs.declared.token.Token.{Token}
 
--- the tokens of a text without a fault, for so many bytes and tokens
-abbrev scan : ℕ → List ℕ → List Tok
-scan zero bytes = []
-scan (suc n) [] = []
-scan (suc n) (b ∷ bs) = elim (is_blank b) [
-  | true ↦ scan n bs
+-- the tokens of a text without a fault, for so many bytes and from this place on
+abbrev scan : ℕ → ℕ → List ℕ → List Token
+scan zero at bytes = []
+scan (suc n) at [] = []
+scan (suc n) at (b ∷ bs) = elim (is_blank b) [
+  | true ↦ scan n (at + 1) bs
   | false ↦ elim (front_of (b ∷ bs)) [
     | None ↦ []
-    | Some front ↦ record { letter = letter_of front.kind (take front.size (b ∷ bs)); bytes = []; number = 0 } ∷ scan n (drop front.size (b ∷ bs))
+    | Some front ↦ token front.kind at (at + front.size) ∷ scan n (at + front.size) (drop front.size (b ∷ bs))
   ]
 ]
 
+-- the tokens of a text as the grammar sees them
+abbrev pub toks : List ℕ → List Tok
+toks text = toks_of text (scan (length text) 0 text)
+
 abbrev left_of : Part → List ℕ → Option ℕ
-left_of part text = read rules (scan (length text) text) (Some (part ∷ []))
+left_of part text = read rules (toks text) (Some (part ∷ []))
+
+-- the number of the token where a text is wrong; none where it is a query
+abbrev pub wrong_at : List ℕ → Option ℕ
+wrong_at text = elim (left_of query text) [ None ↦ None | Some left ↦ Some (length (toks text) - left + 1) ]
 
 -- a text of ten tokens ends too early, so token 11 is missed
 pub early-is : left_of query (codes "FOR $x IN document(\"d\")//x RETURN") ≡ Some 0
 early-is = refl
 
-pub early-tokens : length (scan 99 (codes "FOR $x IN document(\"d\")//x RETURN")) ≡ 10
+pub early-tokens : length (toks (codes "FOR $x IN document(\"d\")//x RETURN")) ≡ 10
 early-tokens = refl
 
 -- no query begins with `)`, and the token is left

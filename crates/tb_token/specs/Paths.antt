@@ -1,4 +1,4 @@
--- The grammar of paths and operands, line by line as docs/FORMATS.md has it.
+-- The grammar of paths and operands, line by line as docs/FORMATS.md has it but for `path`.
 use Rattle.std.specs.Prelude.{[], ◌∷◌, map, codes}
 use Rattle.tb_grammar.specs.Grammar.{Part, one, both, either, many, row}
 use Rattle.tb_token.specs.Letters.{letter_of}

@@ -1,4 +1,4 @@
--- The grammar of queries, line by line as docs/FORMATS.md has it, and its rules.
+-- The grammar of queries, line by line as docs/FORMATS.md has it but for `path`, and its rules.
 use Rattle.std.specs.Prelude.{ℕ, zero, suc, List, [], ◌∷◌, map, codes}
 use Rattle.tb_grammar.specs.Grammar.{Part, one, both, either, maybe, many, Rules, row}
 use Rattle.tb_token.specs.Letters.{letter_of}

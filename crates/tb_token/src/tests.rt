@@ -27,7 +27,7 @@ fn bytes_of(text: &[u8], token: Token) -> &[u8] {
 fn told(alloc: Global, text: &[u8]) -> Result<Vec<u8>, LexFault> {
     let mut out = Vec::new(alloc);
     if text.len() > 65_536 {
-        return Ok(out);
+        return Err(BadByte(65_536));
     }
     let found = tokens(alloc, text)?;
     for token in found.as_slice() {
@@ -42,7 +42,7 @@ fn told(alloc: Global, text: &[u8]) -> Result<Vec<u8>, LexFault> {
 
 #[test]
 fn tokens_are_the_longest(rt: HostRuntime) -> Result<(), Fail> {
-    let rows: [(&[u8], &[u8]); 13] = [
+    let rows: [(&[u8], &[u8]); 16] = [
         (b"", b""),
         (b" \t\r\n", b""),
         (
@@ -65,6 +65,24 @@ fn tokens_are_the_longest(rt: HostRuntime) -> Result<(), Fail> {
             b"Ntext S( S) NText S( S) Na-text S( S) ",
         ),
         (b"a:=b", b"Na S:= Nb "),
+        (
+            b"FOR LET IN ALLOWING EMPTY WHERE AND GROUP ORDER BY ASCENDING DESCENDING RETURN \
+              MATCH DOCUMENT COUNT SUM MIN MAX",
+            b"WFOR WLET WIN WALLOWING WEMPTY WWHERE WAND WGROUP WORDER WBY WASCENDING \
+              WDESCENDING WRETURN WMATCH WDOCUMENT WCOUNT WSUM WMIN WMAX ",
+        ),
+        (
+            b"for let in allowing empty where and group order by ascending descending return \
+              match document count sum min max",
+            b"Wfor Wlet Win Wallowing Wempty Wwhere Wand Wgroup Worder Wby Wascending \
+              Wdescending Wreturn Wmatch Wdocument Wcount Wsum Wmin Wmax ",
+        ),
+        (
+            b"For Let In Allowing Empty Where And Group Order By Ascending Descending Return \
+              Match Document Count Sum Min Max",
+            b"NFor NLet NIn NAllowing NEmpty NWhere NAnd NGroup NOrder NBy NAscending \
+              NDescending NReturn NMatch NDocument NCount NSum NMin NMax ",
+        ),
     ];
     for (text, wanted) in rows {
         let tokens = told(rt.alloc(), text).map_err(|_fault| "a fault")?;
