@@ -1,0 +1,10 @@
+//! Annotated patterns: what a `MATCH` query asks for, and the witnesses that answer it.
+#![tactic(auto)]
+
+mod cond;
+mod pattern;
+mod witness;
+
+pub use cond::{Cond, Literal};
+pub use pattern::{Edge, Mark, PNode, Pattern};
+pub use witness::{Offer, Witness};
