@@ -1,0 +1,6 @@
+-- Patterns as plain data, the conditions in them, the witnesses of a pattern, and their trees.
+pub mod Conditions
+pub mod Plain
+pub mod View
+pub mod Witness
+pub mod WitnessTree

@@ -1,0 +1,28 @@
+-- Annotated patterns as plain data, after TAX (Jagadish and others, VLDB Journal 2002) and tree
+-- logical classes (Paparizos and others, SIGMOD 2004).
+use Rattle.std.specs.Prelude.{Bool, List, [], ◌∷◌}
+use Rattle.tb_span.specs.declared.item.Axis.{Axis}
+use Rattle.tb_tree.specs.declared.node_test.Test.{Test}
+use Rattle.tb_pattern.specs.declared.cond.Cond.{Cond}
+use Rattle.tb_pattern.specs.declared.pattern.Mark.{Mark}
+
+mutual
+  -- a test, conditions on the value, whether the node brings its own content (`!`), and edges
+  pub data PlainPattern : Type 0 where
+    matching : Test → List Cond → Bool → PlainEdges → PlainPattern
+
+  -- edges in written order, each with its axis, its mark and the pattern at its lower end
+  pub data PlainEdges : Type 0 where
+    no_edges : PlainEdges
+    edge : Axis → Mark → PlainPattern → PlainEdges → PlainEdges
+
+-- one edge
+pub record PlainEdge : Type 0 where
+  pub axis : Axis
+  pub mark : Mark
+  pub to : PlainPattern
+
+-- edges given as a list
+abbrev pub edges : List PlainEdge → PlainEdges
+edges [] = no_edges
+edges (e ∷ es) = edge e.axis e.mark e.to (edges es)
