@@ -2,6 +2,7 @@
 #![tactic(auto)]
 
 mod cond;
+mod letter;
 mod pattern;
 mod witness;
 
