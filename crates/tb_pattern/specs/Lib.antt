@@ -4,3 +4,4 @@ pub mod Plain
 pub mod View
 pub mod Witness
 pub mod WitnessTree
+pub mod Reading

@@ -5,6 +5,7 @@ ghost use Rattle.std.specs.Str.{bytes_eq};
 ghost use Rattle.tb_grammar.specs.Grammar.{has};
 ghost use Rattle.tb_token.specs.Letters.{letter_of, bytes_of, place_in, capital_letter};
 ghost use Rattle.tb_token.specs.Kinds.{signs};
+ghost use Rattle.tb_pattern.specs.Reading.{name_letters};
 ghost use Rattle.tb_token.specs.Names.{words};
 
 use std::alloc::{AllocError, Global};
@@ -130,4 +131,16 @@ fn capital_letter(byte: u8) -> u8
     } else {
         byte
     }
+}
+
+/// Whether the letter is that of a name, which any word is too.
+pub fn is_name(letter: u8) -> bool
+    ensures { result ≡ has name_letters letter }
+{
+    has(
+        &[
+            NAME, 64, 65, 66, 67, 68, 69, 70, 71, 72, 73, 74, 75, 76, 77, 78, 79, 80, 81, 82,
+        ],
+        letter,
+    )
 }

@@ -4,6 +4,7 @@
 mod cond;
 mod letter;
 mod pattern;
+mod reading;
 mod witness;
 
 pub use cond::{Cond, Literal};
