@@ -47,14 +47,14 @@ behind_at r x =
     else on r (signs_of (codes "*" ∷ [])) x p.BehindTest
 
 -- the list of edges goes on, or its bracket is closed
-abbrev pub edges_at : Reading → ℕ → ℕ → Option Reading
-edges_at r zero x = None
-edges_at r (suc d) x =
-    if has (signs_of (codes "," ∷ [])) x then Some (at r p.Edge)
+abbrev pub edges_at : ℕ → ℕ → Option Reading
+edges_at zero x = None
+edges_at (suc d) x =
+    if has (signs_of (codes "," ∷ [])) x then Some (record { place = p.Edge; depth = suc d })
     else (if has (signs_of (codes ")" ∷ [])) x then Some (record { place = p.BehindEdges; depth = d }) else None)
 
 abbrev pub behind_edges : Reading → ℕ → Option Reading
-behind_edges r x = edges_at r r.depth x
+behind_edges r x = edges_at r.depth x
 
 abbrev pub behind_bang : Reading → ℕ → Option Reading
 behind_bang r x =
