@@ -1,3 +1,4 @@
 pub mod Views
 pub mod ReadingLaws
+pub mod SyntaxLaws
 pub mod WorkedRows

@@ -5,3 +5,4 @@ pub mod View
 pub mod Witness
 pub mod WitnessTree
 pub mod Reading
+pub mod Syntax

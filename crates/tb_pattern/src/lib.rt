@@ -5,8 +5,10 @@ mod cond;
 mod letter;
 mod pattern;
 mod reading;
+mod syntax;
 mod witness;
 
 pub use cond::{Cond, Literal};
 pub use pattern::{Edge, Mark, PNode, Pattern};
+pub use syntax::first_wrong;
 pub use witness::{Offer, Witness};
