@@ -1,4 +1,5 @@
 pub mod Views
 pub mod ReadingLaws
 pub mod SyntaxLaws
+pub mod LimitLaws
 pub mod WorkedRows

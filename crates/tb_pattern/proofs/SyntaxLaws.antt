@@ -98,7 +98,7 @@ module _ (text : List ℕ) (ts : List Token) where
         let size = ap length here in
         let left = toks-length (at + 1 + 1) text behind in
         let found : read rules (toks_of text ts) (Some (match_query ∷ [])) ≡ Some (1 + length (toks_from (at + 1 + 1) text behind)) =
-            sym read-here ∙ ap (λ y. read rules (toks_from (at + 1 + 1) text behind) (after rules (parts_of r) y)) (sym same) ∙ ap (λ o. read rules (toks_from (at + 1 + 1) text behind) o) parts in
+        sym read-here ∙ ap (λ y. read rules (toks_from (at + 1 + 1) text behind) (after rules (parts_of r) y)) (sym same) ∙ ap (λ o. read rules (toks_from (at + 1 + 1) text behind) o) parts in
         wrong-at (1 + length (toks_from (at + 1 + 1) text behind)) (at + 1) found (omega (arith, length-drop at ts)) (omega (arith, length-drop at ts))
 
   module _ (at : ℕ) (r : Reading) (going : Going text ts at r) (past : length ts ≤ at) where

@@ -6,3 +6,4 @@ pub mod Witness
 pub mod WitnessTree
 pub mod Reading
 pub mod Syntax
+pub mod Faults

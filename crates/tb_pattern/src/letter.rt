@@ -12,30 +12,55 @@ use std::alloc::{AllocError, Global};
 use tb_token::{Kind, Token};
 
 pub const NAME: u8 = 0;
+
 pub const NUMBER: u8 = 2;
+
 pub const QUOTED: u8 = 3;
+
 pub const TEXT_TEST: u8 = 4;
+
 pub const DOUBLE_SLASH: u8 = 8;
+
 pub const SLASH: u8 = 10;
+
 pub const LESS_OR_EQUAL: u8 = 12;
+
 pub const LESS: u8 = 13;
+
 pub const GREATER_OR_EQUAL: u8 = 14;
+
 pub const GREATER: u8 = 15;
+
 pub const NOT_EQUAL: u8 = 16;
+
 pub const BANG: u8 = 17;
+
 pub const EQUAL: u8 = 18;
+
 pub const OPEN: u8 = 20;
+
 pub const CLOSE: u8 = 21;
+
 pub const OPEN_CONDS: u8 = 22;
+
 pub const CLOSE_CONDS: u8 = 23;
+
 pub const COMMA: u8 = 26;
+
 pub const AT: u8 = 27;
+
 pub const STAR: u8 = 28;
+
 pub const MINUS: u8 = 29;
+
 pub const PLUS: u8 = 30;
+
 pub const QUESTION: u8 = 31;
+
 pub const AND: u8 = 70;
+
 pub const MATCH: u8 = 77;
+
 pub const DOCUMENT: u8 = 78;
 
 /// Whether the letter is among these.
@@ -85,9 +110,25 @@ fn place_among_words(bytes: &[u8]) -> u8
     place_in(
         bytes,
         &[
-            b"FOR", b"LET", b"IN", b"ALLOWING", b"EMPTY", b"WHERE", b"AND", b"GROUP", b"ORDER",
-            b"BY", b"ASCENDING", b"DESCENDING", b"RETURN", b"MATCH", b"DOCUMENT", b"COUNT", b"SUM",
-            b"MIN", b"MAX",
+            b"FOR",
+            b"LET",
+            b"IN",
+            b"ALLOWING",
+            b"EMPTY",
+            b"WHERE",
+            b"AND",
+            b"GROUP",
+            b"ORDER",
+            b"BY",
+            b"ASCENDING",
+            b"DESCENDING",
+            b"RETURN",
+            b"MATCH",
+            b"DOCUMENT",
+            b"COUNT",
+            b"SUM",
+            b"MIN",
+            b"MAX",
         ],
     )
 }

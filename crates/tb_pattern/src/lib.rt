@@ -2,13 +2,16 @@
 #![tactic(auto)]
 
 mod cond;
+mod fault;
 mod letter;
+mod limits;
 mod pattern;
 mod reading;
 mod syntax;
 mod witness;
 
 pub use cond::{Cond, Literal};
+pub use fault::PatternFault;
 pub use pattern::{Edge, Mark, PNode, Pattern};
 pub use syntax::first_wrong;
 pub use witness::{Offer, Witness};

@@ -72,7 +72,9 @@ impl Reading {
             Place::DocumentName => self.on(&[QUOTED], letter, Place::DocumentClose),
             Place::DocumentClose => self.on(&[CLOSE], letter, Place::Edges),
             Place::Edges => self.on(&[OPEN], letter, Place::FirstEdge),
-            Place::FirstEdge => self.deeper().on(&[SLASH, DOUBLE_SLASH], letter, Place::Mark),
+            Place::FirstEdge => self
+                .deeper()
+                .on(&[SLASH, DOUBLE_SLASH], letter, Place::Mark),
             Place::Edge => self.on(&[SLASH, DOUBLE_SLASH], letter, Place::Mark),
             Place::Mark => self.on(&[MINUS, QUESTION, PLUS, STAR], letter, Place::Test),
             Place::Test => self.behind_mark(letter),

@@ -12,11 +12,7 @@ use tb_token::Token;
 
 /// The number, from 1, of the first token that begins no query with those before it, or one more
 /// than there are. `None` for a query. Brackets inside each other cost no calls.
-pub fn first_wrong(
-    alloc: Global,
-    text: &[u8],
-    tokens: &[Token],
-) -> Result<Option<u32>, AllocError>
+pub fn first_wrong(alloc: Global, text: &[u8], tokens: &[Token]) -> Result<Option<u32>, AllocError>
     requires short { length text.now ≤ 65536 }
     requires rise { Rise 0 (length text.now) tokens.now }
     ensures { IfOk result (λ wrong. FirstWrong (toks_of text.now tokens.now) wrong) }
@@ -41,9 +37,14 @@ pub fn letter_at(alloc: Global, text: &[u8], token: Token) -> Result<u8, AllocEr
     requires to { token.to ≤ length text.now }
     ensures { IfOk result (λ letter. letter ≡ letter_of token.kind (bytes_of text.now token)) }
 {
-    letter_of(
-        alloc,
-        token.kind,
-        &text[token.from as usize..token.to as usize],
-    )
+    letter_of(alloc, token.kind, bytes_at(text, token))
+}
+
+/// The bytes of a token of the text.
+pub fn bytes_at(text: &[u8], token: Token) -> &[u8]
+    requires from { token.from ≤ token.to }
+    requires to { token.to ≤ length text.now }
+    ensures { result.now ≡ bytes_of text.now token }
+{
+    &text[token.from as usize..token.to as usize]
 }
