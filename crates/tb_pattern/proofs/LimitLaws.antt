@@ -85,3 +85,15 @@ module _ (text : List ℕ) (ts : List Token) (at : ℕ) (minus : Bool) (is : Pas
 
   pub past-none : length ts ≤ at → None ≡ first_past (toks_of text ts)
   past-none past = rw (drop_all at ts past) at is.same
+
+letters-length : (n : ℕ) (text : List ℕ) (ts : List Token) → length (letters_of (toks_from n text ts)) ≡ length ts
+letters-length n text [] = refl
+letters-length n text (t ∷ ts) = ap (λ k. suc k) (letters-length (n + 1) text ts)
+
+-- a text has no more tokens than bytes
+pub letters-few : (text : List ℕ) (ts : List Token) (xs : List ℕ) → length text ≤ 65536 → Rise 0 (length text) ts
+    → xs ≡ letters_of (toks_of text ts) → length xs ≤ 65536
+letters-few text ts xs short rise e =
+    let size = ap length e in
+    let few = rise-few 0 (length text) ts rise in
+    omega (arith, letters-length 1 text ts)

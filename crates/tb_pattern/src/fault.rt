@@ -3,7 +3,7 @@
 ghost use Rattle.std.specs.Prelude.{◌≡◌};
 ghost use Rattle.tb_pattern.specs.declared.fault.PatternFault.TheVariants.{NoMemory};
 
-use std::alloc::AllocFailed;
+use std::alloc::{AllocError, AllocFailed};
 
 /// The first of the faults that holds, in this order. Tokens are numbered from 1.
 #[derive(Clone, Copy, Debug, PartialEq, Eq)]
@@ -24,6 +24,14 @@ impl<T: Drop> From<AllocFailed<T>> for PatternFault {
     ghost from_gives = { λ _ fault. fault ≡ NoMemory };
 
     fn from(_failed: AllocFailed<T>) -> PatternFault {
+        PatternFault::NoMemory
+    }
+}
+
+impl From<AllocError> for PatternFault {
+    ghost from_gives = { λ _ fault. fault ≡ NoMemory };
+
+    fn from(_failed: AllocError) -> PatternFault {
         PatternFault::NoMemory
     }
 }

@@ -1,6 +1,7 @@
 //! Annotated patterns: what a `MATCH` query asks for, and the witnesses that answer it.
 #![tactic(auto)]
 
+mod check;
 mod cond;
 mod fault;
 mod letter;
@@ -10,8 +11,9 @@ mod reading;
 mod syntax;
 mod witness;
 
+pub use check::check_match;
 pub use cond::{Cond, Literal};
 pub use fault::PatternFault;
 pub use pattern::{Edge, Mark, PNode, Pattern};
-pub use syntax::first_wrong;
+
 pub use witness::{Offer, Witness};
