@@ -2,4 +2,5 @@ pub mod Views
 pub mod ReadingLaws
 pub mod SyntaxLaws
 pub mod LimitLaws
+pub mod ValueLaws
 pub mod WorkedRows

@@ -7,3 +7,4 @@ pub mod WitnessTree
 pub mod Reading
 pub mod Syntax
 pub mod Faults
+pub mod Value
