@@ -23,9 +23,10 @@ first-tree v w e = cc
 -- the pattern of a query is one
 pub one-pattern : (s : List Tok) (d e : List ℕ) (es fs : PlainEdges) → AskFor s d es → AskFor s e fs → (d ≡ e) × (es ≡ fs)
 one-pattern s d e es fs one_is two_is =
-    let same = first-tree one_is.tree two_is.tree (one-tree rules follow readable.good readable.matches one_is.derived two_is.derived) in
-    ( one_is.document_is ∙ ap document_of same ∙ sym two_is.document_is,
-      one_is.edges_are ∙ ap pattern_of same ∙ sym two_is.edges_are )
+    let same = first-tree one_is.tree two_is.tree (one-tree rules follow readable.good readable.matches one_is.derived two_is.derived) in (
+      one_is.document_is ∙ ap document_of same ∙ sym two_is.document_is,
+      one_is.edges_are ∙ ap pattern_of same ∙ sym two_is.edges_are,
+    )
 
 abbrev tok : Kind → List ℕ → Tree
 tok k bytes = leaf (record { letter = letter_of k bytes; bytes = bytes; number = 0 })

@@ -21,6 +21,9 @@ name_letters = letter_of Name [] ∷ map (letter_of Word) words
 abbrev pub axis_letters : List ℕ
 axis_letters = signs_of (codes "/" ∷ codes "//" ∷ [])
 
+abbrev pub mark_letters : List ℕ
+mark_letters = signs_of (codes "-" ∷ codes "?" ∷ codes "+" ∷ codes "*" ∷ [])
+
 abbrev pub start : Reading
 start = record { place = p.Query; depth = 0 }
 
@@ -51,7 +54,8 @@ abbrev pub edges_at : ℕ → ℕ → Option Reading
 edges_at zero x = None
 edges_at (suc d) x =
     if has (signs_of (codes "," ∷ [])) x then Some (record { place = p.Edge; depth = suc d })
-    else (if has (signs_of (codes ")" ∷ [])) x then Some (record { place = p.BehindEdges; depth = d }) else None)
+    else (if has (signs_of (codes ")" ∷ [])) x
+    then Some (record { place = p.BehindEdges; depth = d }) else None)
 
 abbrev pub behind_edges : Reading → ℕ → Option Reading
 behind_edges r x = edges_at r.depth x
@@ -68,9 +72,12 @@ abbrev pub behind_test : Reading → ℕ → Option Reading
 behind_test r x =
     if has (signs_of (codes "[" ∷ [])) x then Some (at r p.FirstCond) else behind_conds r x
 
+abbrev pub cmp_letters : List ℕ
+cmp_letters =
+    signs_of (codes "=" ∷ codes "!=" ∷ codes "<" ∷ codes "<=" ∷ codes ">" ∷ codes ">=" ∷ [])
+
 abbrev pub behind_and : Reading → ℕ → Option Reading
-behind_and r x =
-    on r (signs_of (codes "=" ∷ codes "!=" ∷ codes "<" ∷ codes "<=" ∷ codes ">" ∷ codes ">=" ∷ [])) x p.Literal
+behind_and r x = on r cmp_letters x p.Literal
 
 abbrev pub behind_cmp : Reading → ℕ → Option Reading
 behind_cmp r x =
@@ -93,7 +100,7 @@ step_at p.DocumentClose r x = on r (signs_of (codes ")" ∷ [])) x p.Edges
 step_at p.Edges r x = on r (signs_of (codes "(" ∷ [])) x p.FirstEdge
 step_at p.FirstEdge r x = on (deeper r) axis_letters x p.Mark
 step_at p.Edge r x = on r axis_letters x p.Mark
-step_at p.Mark r x = on r (signs_of (codes "-" ∷ codes "?" ∷ codes "+" ∷ codes "*" ∷ [])) x p.Test
+step_at p.Mark r x = on r mark_letters x p.Test
 step_at p.Test r x = behind_mark r x
 step_at p.Attribute r x = behind_at r x
 step_at p.BehindTest r x = behind_test r x
@@ -148,7 +155,8 @@ cond_behind d = more_conds ∷ sign (codes "]") ∷ conds_behind ∷ outer d
 abbrev pub parts_at : Place → ℕ → List Part
 parts_at p.Query d = match_query ∷ outer d
 parts_at p.Document d = both doc edges ∷ outer d
-parts_at p.DocumentOpen d = row (sign (codes "(")) (string ∷ sign (codes ")") ∷ []) ∷ edges ∷ outer d
+parts_at p.DocumentOpen d =
+    row (sign (codes "(")) (string ∷ sign (codes ")") ∷ []) ∷ edges ∷ outer d
 parts_at p.DocumentName d = both string (sign (codes ")")) ∷ edges ∷ outer d
 parts_at p.DocumentClose d = sign (codes ")") ∷ edges ∷ outer d
 parts_at p.Edges d = edges ∷ outer d

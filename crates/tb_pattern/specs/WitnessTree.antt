@@ -4,7 +4,8 @@ use Rattle.tb_tree.specs.Plain.{Plain, elem, attr, text, Plains, no_kids, kid, j
 use Rattle.tb_pattern.specs.Plain.{PlainPattern, matching, PlainEdges, no_edges, edge}
 use Rattle.tb_pattern.specs.Witness.{Witness, witness, Offers, no_offers, offer, Witnesses, no_witnesses, then_witness}
 
--- the kids behind a text, which joins with a text that they begin with, and vanishes where it is empty
+-- the kids behind a text, which joins with a text that they begin with, and vanishes where it is
+-- empty
 abbrev pub behind_text : List ℕ → Plains → Plains
 behind_text value (kid (text more) rest) = kid (text (value ++ more)) rest
 behind_text [] rest = rest
@@ -24,10 +25,11 @@ own true (elem name kids) = kids
 own true (attr name value) = kid (text value) no_kids
 own true (text value) = no_kids
 
--- The tree of a matched node, with the trees of its offers inside. An element keeps its name, and an
--- attribute becomes an element named `@` and its name. A text stays a text.
+-- The tree of a matched node, with the trees of its offers inside. An element keeps its name, and
+-- an attribute becomes an element named `@` and its name. A text stays a text.
 abbrev pub shown : Bool → Plain → Plains → Plain
-shown whole (elem name kids) inside = elem name (texts_joined (joined_kids (own whole (elem name kids)) inside))
+shown whole (elem name kids) inside =
+    elem name (texts_joined (joined_kids (own whole (elem name kids)) inside))
 shown whole (attr name value) inside =
     elem (64 ∷ name) (texts_joined (joined_kids (own whole (attr name value)) inside))
 shown whole (text value) inside = text value

@@ -3,8 +3,8 @@
 ghost use Rattle.std.specs.Prelude.{◌≡◌, ◌≤◌, IfOk, length, option_map};
 ghost use Rattle.tb_token.specs.Calls.{Rise};
 ghost use Rattle.tb_token.specs.Letters.{toks_of};
-ghost use Rattle.tb_pattern.specs.Faults.{open_behind, nests_past, tests_in, literal_in, letters_of};
-ghost use Rattle.tb_pattern.specs.Faults.{is_past, first_past};
+ghost use Rattle.tb_pattern.specs.Faults.{open_behind, nests_past, tests_in, letters_of};
+ghost use Rattle.tb_pattern.specs.Faults.{literal_in, is_past, first_past};
 
 use crate::letter::{CLOSE, DOUBLE_SLASH, MINUS, NUMBER, OPEN, SLASH, has};
 use crate::syntax::{bytes_at, letter_at};
