@@ -1,8 +1,7 @@
 -- The reading of the tokens that are left is that of them all, and ends where they are wrong.
-use Rattle.std.proofs.Common.{◌≡◌, ℕ, suc, ◌+◌, ◌-◌, ◌<◌, ◌≤◌, Bool, true, false, cond, List, [], ◌∷◌, length, drop, get_or, Option, Some, None, refl, sym, ap, ◌∙◌, arith, length-drop}
+use Rattle.std.proofs.Common.{◌≡◌, ℕ, suc, ◌+◌, ◌-◌, ◌<◌, ◌≤◌, true, false, cond, List, [], ◌∷◌, length, drop, get_or, Some, None, refl, sym, ap, ◌∙◌, arith, length-drop}
 use Rattle.std.proofs.lemmas.List.{drop_more, drop_all}
 use Rattle.std.specs.Option.{option_map}
-use Rattle.tb_grammar.specs.Grammar.{Part}
 use Rattle.tb_grammar.specs.Words.{IsWrongAt}
 use Rattle.tb_grammar.specs.Reading.{read, after}
 use Rattle.tb_grammar.proofs.ReadLaws.{read-word, read-wrong}

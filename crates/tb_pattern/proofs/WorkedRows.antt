@@ -1,10 +1,9 @@
 -- Worked rows of the definitions, computed.
 use Rattle.std.proofs.Common.{◌≡◌, ℕ, true, false, List, [], ◌∷◌, map, length, refl, codes}
-use Rattle.std.specs.Prelude.{ℤ, pos, Bool}
+use Rattle.std.specs.Prelude.{pos}
 use Rattle.std.specs.List.{flat_map}
-use Rattle.tb_tree.specs.Plain.{Plain, elem, attr, text, Plains, no_kids, kid}
+use Rattle.tb_tree.specs.Plain.{Plain, elem, attr, text, no_kids, kid}
 use Rattle.tb_tree.specs.Printed.{printed_node}
-use Rattle.tb_tree.specs.declared.node_test.Test.{Test}
 use Rattle.tb_tree.specs.declared.node_test.Test.TheVariants.{Name, AttrName, AnyAttr, AnyText}
 use Rattle.tb_number.specs.Reading.{integer_of}
 use Rattle.tb_number.specs.declared.op.CmpOp.{CmpOp}

@@ -1,6 +1,6 @@
 -- How the program reads a `MATCH` query, token by token: what may come next in place of the parts
 -- that are still to come, which are the same at each depth.
-use Rattle.std.specs.Prelude.{ℕ, zero, suc, ◌+◌, ◌-◌, Bool, false, ◌==◌, if◌then◌else◌, List, [], ◌∷◌, map, codes, Option, Some, None}
+use Rattle.std.specs.Prelude.{ℕ, zero, suc, ◌+◌, Bool, false, ◌==◌, if◌then◌else◌, List, [], ◌∷◌, map, codes, Option, Some, None}
 use Rattle.tb_grammar.specs.Grammar.{Part, both, either, maybe, many, has, row}
 use Rattle.tb_token.specs.Letters.{letter_of}
 use Rattle.tb_token.specs.Names.{words}

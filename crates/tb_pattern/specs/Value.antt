@@ -1,6 +1,6 @@
 -- The pattern that the tree of a query stands for, production by production. A tree of another
 -- form is that of no query, and stands for what costs no words.
-use Rattle.std.specs.Prelude.{◌≡◌, ℕ, ◌-◌, Bool, true, false, if◌then◌else◌, List, [], ◌∷◌, length, take, drop, codes, ℤ}
+use Rattle.std.specs.Prelude.{◌≡◌, ℕ, ◌-◌, Bool, true, false, if◌then◌else◌, List, [], ◌∷◌, length, take, drop, codes}
 use Rattle.tb_grammar.specs.Grammar.{Tok}
 use Rattle.tb_grammar.specs.Words.{Tree, leaf, nothing, pair, first, second, Derives}
 use Rattle.tb_number.specs.IntText.{signed, number_of}

@@ -1,5 +1,5 @@
 -- Each token that is no number outside the range is passed.
-use Rattle.std.proofs.Common.{◌∙◌, sym, arith}
+use Rattle.std.proofs.Common.{arith}
 use Rattle.tb_pattern.proofs.LimitLaws.{token-to, passed-start}
 use Rattle.tb_pattern.proofs.limits.first_past.Goals as goal
 

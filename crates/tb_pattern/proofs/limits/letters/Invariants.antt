@@ -1,6 +1,3 @@
-use Rattle.std.proofs.Common.{◌≡◌, take, map}
-use Rattle.tb_token.specs.Letters.{toks_of}
-use Rattle.tb_pattern.specs.Faults.{letters_of}
 use Rattle.tb_pattern.proofs.LimitLaws.{Lettered}
 use Rattle.tb_pattern.proofs.limits.letters.Given as goal
 
