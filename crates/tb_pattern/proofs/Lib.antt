@@ -3,4 +3,5 @@ pub mod ReadingLaws
 pub mod SyntaxLaws
 pub mod LimitLaws
 pub mod ValueLaws
+pub mod LiteralLaws
 pub mod WorkedRows
