@@ -4,4 +4,5 @@ pub mod SyntaxLaws
 pub mod LimitLaws
 pub mod ValueLaws
 pub mod LiteralLaws
+pub mod TestLaws
 pub mod WorkedRows
