@@ -1,0 +1,157 @@
+-- The tests that are written are the nodes of the pattern that is asked for.
+use Rattle.std.proofs.Common.{◌≡◌, ℕ, ◌+◌, Bool, true, false, cond, ◌&&◌, List, [], ◌∷◌, refl, sym, ap, ◌∙◌, arith}
+use Rattle.std.specs.Prelude.{⊤, codes}
+use Rattle.std.proofs.lemmas.Bool.{and_parts}
+use Rattle.tb_grammar.specs.Grammar.{Tok, Part, one, both, either, maybe, many, opened, has}
+use Rattle.tb_grammar.specs.Words.{Tree, leaf, nothing, pair, first, second, Derives, at_end, by_one, by_both, by_first, by_second, left_out, put_in, no_more, one_more, by_rule}
+use Rattle.tb_grammar.specs.Decided.{are_apart}
+use Rattle.tb_grammar.proofs.LetterLaws.{none-true, apart-none}
+use Rattle.tb_token.specs.Letters.{letter_of}
+use Rattle.tb_token.specs.declared.token.Kind.TheVariants.{Sign}
+use Rattle.tb_token.specs.Terminals.{comma}
+use Rattle.tb_token.specs.Patterns.{axis, mark, test, conds, edges, edge, match_query}
+use Rattle.tb_token.specs.Queries.{rules}
+use Rattle.tb_pattern.specs.Reading.{axis_letters, bang_part}
+use Rattle.tb_pattern.specs.Faults.{tests_in, letters_of, tests_of}
+use Rattle.tb_pattern.specs.Plain.{PlainEdges, nodes_in}
+use Rattle.tb_pattern.specs.Value.{edges_in, more_edges_in, edges_from, pattern_of, AskFor}
+
+-- a tree of the part, wherever its tokens stand
+data Of : Part → Tree → Type 0 where
+  of_one : {c : List ℕ} {t : Tok} → has c t.letter ≡ true → Of (one c) (leaf t)
+  of_both : {p q : Part} {v w : Tree} → Of p v → Of q w → Of (both p q) (pair v w)
+  of_first : {p q : Part} {v : Tree} → Of p v → Of (either p q) (first v)
+  of_second : {p q : Part} {v : Tree} → Of q v → Of (either p q) (second v)
+  of_nothing : {p : Part} → Of (maybe p) nothing
+  of_put : {p : Part} {v : Tree} → Of p v → Of (maybe p) v
+  of_none : {p : Part} → Of (many p) nothing
+  of_more : {p : Part} {v w : Tree} → Of p v → Of (many p) w → Of (many p) (pair v w)
+  of_rule : {c : List ℕ} {n : ℕ} {t : Tok} {v : Tree} → has c t.letter ≡ true → Of (rules n) v → Of (opened c n) (pair (leaf t) v)
+
+abbrev AllOf : List Part → List Tree → Type 0
+AllOf [] [] = ⊤
+AllOf [] (v ∷ vs) = ⊥
+AllOf (p ∷ ps) [] = ⊥
+AllOf (p ∷ ps) (v ∷ vs) = Of p v × AllOf ps vs
+
+derived-of : {ps : List Part} {vs : List Tree} {s : List Tok} → Derives rules ps vs s → AllOf ps vs
+derived-of at_end = tt
+derived-of (by_one h d) = (of_one h, derived-of d)
+derived-of (by_both d) = let f = derived-of d in (of_both f.0 f.1.0, f.1.1)
+derived-of (by_first d) = let f = derived-of d in (of_first f.0, f.1)
+derived-of (by_second d) = let f = derived-of d in (of_second f.0, f.1)
+derived-of (left_out d) = (of_nothing, derived-of d)
+derived-of (put_in d) = let f = derived-of d in (of_put f.0, f.1)
+derived-of (no_more d) = (of_none, derived-of d)
+derived-of (one_more d) = let f = derived-of d in (of_more f.0 f.1.0, f.1.1)
+derived-of (by_rule h d) = let f = derived-of d in (of_rule h f.0, f.1)
+
+-- the axes among the leaves of trees
+
+abbrev axes : Tree → ℕ
+axes (leaf t) = cond (has axis_letters t.letter) 1 0
+axes nothing = 0
+axes (pair v w) = axes v + axes w
+axes (first v) = axes v
+axes (second v) = axes v
+
+abbrev all_axes : List Tree → ℕ
+all_axes [] = 0
+all_axes (v ∷ vs) = axes v + all_axes vs
+
+count-one : (b : Bool) (m n : ℕ) → m ≡ n → cond b 1 0 + m ≡ cond b (1 + n) n
+count-one true m n e = omega arith
+count-one false m n e = omega arith
+
+axes-derived : {ps : List Part} {vs : List Tree} {s : List Tok} → Derives rules ps vs s → all_axes vs ≡ tests_in (letters_of s)
+axes-derived at_end = refl
+axes-derived (by_one {t = t} h d) = count-one (has axis_letters t.letter) _ _ (axes-derived d)
+axes-derived (by_both d) = let e = axes-derived d in omega arith
+axes-derived (by_first d) = axes-derived d
+axes-derived (by_second d) = axes-derived d
+axes-derived (left_out d) = let e = axes-derived d in omega arith
+axes-derived (put_in d) = axes-derived d
+axes-derived (no_more d) = let e = axes-derived d in omega arith
+axes-derived (one_more d) = let e = axes-derived d in omega arith
+axes-derived (by_rule {t = t} h d) =
+    let e = count-one (has axis_letters t.letter) _ _ (axes-derived d) in
+    omega arith
+
+-- no axis stands in the part
+abbrev is_quiet : Part → Bool
+is_quiet (one c) = are_apart c axis_letters
+is_quiet (both p q) = is_quiet p && is_quiet q
+is_quiet (either p q) = is_quiet p && is_quiet q
+is_quiet (maybe p) = is_quiet p
+is_quiet (many p) = is_quiet p
+is_quiet (opened c n) = false
+
+quiet-leaf : (c : List ℕ) (t : Tok) → are_apart c axis_letters ≡ true → has c t.letter ≡ true → axes (leaf t) ≡ 0
+quiet-leaf c t apart h = ap (λ b. cond b 1 0) (apart-none c axis_letters t.letter apart h)
+
+quiet-none : {p : Part} {v : Tree} → Of p v → is_quiet p ≡ true → axes v ≡ 0
+quiet-none (of_one {c = c} {t = t} h) e = quiet-leaf c t e h
+quiet-none (of_both {p = p} {q = q} f g) e =
+    let parts = and_parts (is_quiet p) (is_quiet q) e in
+    let one_is = quiet-none f parts.0 in
+    let two_is = quiet-none g parts.1 in
+    omega arith
+quiet-none (of_first {p = p} {q = q} f) e = quiet-none f (and_parts (is_quiet p) (is_quiet q) e).0
+quiet-none (of_second {p = p} {q = q} f) e = quiet-none f (and_parts (is_quiet p) (is_quiet q) e).1
+quiet-none of_nothing e = refl
+quiet-none (of_put f) e = quiet-none f e
+quiet-none of_none e = refl
+quiet-none (of_more f g) e =
+    let one_is = quiet-none f e in
+    let two_is = quiet-none g e in
+    omega arith
+quiet-none (of_rule h f) e = none-true false refl e
+
+axis-one : {v : Tree} → Of axis v → axes v ≡ 1
+axis-one (of_one h) = ap (λ b. cond b 1 0) h
+
+mutual
+  edges-nodes : {v : Tree} → Of edges v → axes v ≡ nodes_in (edges_in v)
+  edges-nodes (of_rule {t = t} h (of_both (of_both {w = more} e more_is) close)) =
+      let opening = quiet-leaf (letter_of Sign (codes "(") ∷ []) t refl h in
+      let closing = quiet-none close refl in
+      let others = more-nodes more_is in
+      let here = edge-nodes e (more_edges_in more) in
+      omega arith
+
+  more-nodes : {v : Tree} → Of (many (both comma edge)) v → axes v ≡ nodes_in (more_edges_in v)
+  more-nodes of_none = refl
+  more-nodes (of_more {w = more} (of_both between e) more_is) =
+      let comma_is = quiet-none between refl in
+      let others = more-nodes more_is in
+      let here = edge-nodes e (more_edges_in more) in
+      omega arith
+
+  edge-nodes : {v : Tree} → Of edge v → (behind : PlainEdges) → axes v + nodes_in behind ≡ nodes_in (edges_from v behind)
+  edge-nodes (of_both a (of_both m (of_both t (of_both c (of_both w below))))) behind =
+      let axis_is = axis-one a in
+      let mark_is = quiet-none m refl in
+      let test_is = quiet-none t refl in
+      let conds_is = quiet-none c refl in
+      let whole_is = quiet-none w refl in
+      let below_is = below-nodes below in
+      omega arith
+
+  below-nodes : {v : Tree} → Of (maybe edges) v → axes v ≡ nodes_in (edges_in v)
+  below-nodes of_nothing = refl
+  below-nodes (of_put f) = edges-nodes f
+
+match-nodes : {v : Tree} → Of match_query v → axes v ≡ nodes_in (pattern_of v)
+match-nodes (of_both word (of_both doc es)) =
+    let word_is = quiet-none word refl in
+    let doc_is = quiet-none doc refl in
+    let edges_is = edges-nodes es in
+    omega arith
+
+-- the tests of a query are the nodes of its pattern
+pub tests-nodes : (s : List Tok) (document : List ℕ) (es : PlainEdges) → AskFor s document es → tests_of s ≡ nodes_in es
+tests-nodes s document es asks =
+    let all_is = axes-derived asks.derived in
+    let here = match-nodes (derived-of asks.derived).0 in
+    let same = ap nodes_in asks.edges_are in
+    omega arith

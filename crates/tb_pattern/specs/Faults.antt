@@ -1,0 +1,94 @@
+-- The faults of a `MATCH` query, in the order in which they are tried.
+use Rattle.std.specs.Prelude.{◌≡◌, ℕ, ◌+◌, ◌-◌, ◌<◌, ◌≤◌, Bool, true, false, ◌&&◌, ◌||◌, ◌==◌, nat_lt, if◌then◌else◌, List, [], ◌∷◌, map, codes, ℤ, Option, Some, None, Result, Ok, Err, ⊤}
+use Rattle.std.specs.Option.{option_and_then}
+use Rattle.tb_grammar.specs.Grammar.{Tok, has}
+use Rattle.tb_grammar.specs.Words.{IsWrongAt}
+use Rattle.tb_number.specs.Range.{within_range}
+use Rattle.tb_number.specs.Reading.{integer_of}
+use Rattle.tb_token.specs.Letters.{letter_of}
+use Rattle.tb_token.specs.Patterns.{match_query}
+use Rattle.tb_token.specs.Queries.{rules}
+use Rattle.tb_token.specs.declared.token.Kind.TheVariants.{Number, Sign}
+use Rattle.tb_pattern.specs.Reading.{axis_letters}
+use Rattle.tb_pattern.specs.Syntax.{AreMatch}
+use Rattle.tb_pattern.specs.declared.fault.PatternFault.{PatternFault}
+use Rattle.tb_pattern.specs.declared.fault.PatternFault.TheVariants.{Syntax, TooNested, TooManyNodes, LiteralPast, NoMemory}
+
+abbrev pub is_sign : List ℕ → ℕ → Bool
+is_sign text x = x == letter_of Sign text
+
+-- how many brackets are open behind the letter, where so many are before it
+abbrev pub open_behind : ℕ → ℕ → ℕ
+open_behind depth x =
+    if is_sign (codes "(") x then depth + 1
+    else (if is_sign (codes ")") x then depth - 1 else depth)
+
+-- Somewhere more than 32 brackets are open. In a query the brackets round the document's name are
+-- closed when the first list of edges opens, and each open list has one pattern node inside
+-- which the next list stands. So then more than 32 pattern nodes are inside each other.
+abbrev pub nests_past : ℕ → List ℕ → Bool
+nests_past depth [] = false
+nests_past depth (x ∷ xs) =
+    let behind = open_behind depth x in nat_lt 32 behind || nests_past behind xs
+
+-- how many tests are written: each stands behind an axis and a mark
+abbrev pub tests_in : List ℕ → ℕ
+tests_in [] = 0
+tests_in (x ∷ xs) = if has axis_letters x then 1 + tests_in xs else tests_in xs
+
+-- digits behind their sign
+abbrev pub with_sign : Bool → List ℕ → List ℕ
+with_sign minus digits = if minus then 45 ∷ digits else digits
+
+-- the number of a literal, or none where it is outside the signed range of 128 bits
+abbrev pub literal_in : Bool → List ℕ → Option ℤ
+literal_in minus digits = option_and_then within_range (integer_of (with_sign minus digits))
+
+abbrev pub is_none : Option ℤ → Bool
+is_none None = true
+is_none (Some n) = false
+
+-- the token is a number outside the range
+abbrev pub is_past : Bool → ℕ → List ℕ → Bool
+is_past minus x bytes = x == letter_of Number [] && is_none (literal_in minus bytes)
+
+-- The first number token whose number, with its sign, is outside the range. Numbers stand in
+-- literals alone, so a `-` directly before one is its sign.
+abbrev pub past_behind : Bool → List Tok → Option ℕ
+past_behind minus [] = None
+past_behind minus (t ∷ s) =
+    if is_past minus t.letter t.bytes then Some t.number
+    else past_behind (is_sign (codes "-") t.letter) s
+
+abbrev pub letters_of : List Tok → List ℕ
+letters_of s = map (λ t. t.letter) s
+
+abbrev pub is_too_nested : List Tok → Bool
+is_too_nested s = nests_past 0 (letters_of s)
+
+abbrev pub tests_of : List Tok → ℕ
+tests_of s = tests_in (letters_of s)
+
+abbrev pub first_past : List Tok → Option ℕ
+first_past s = past_behind false s
+
+-- the first fault of the tokens; memory may be wanting at any time
+abbrev pub HasFault : List Tok → PatternFault → Type 0
+HasFault s (Syntax k) = IsWrongAt rules (match_query ∷ []) s k
+HasFault s TooNested = AreMatch s × (is_too_nested s ≡ true)
+HasFault s TooManyNodes = AreMatch s × (is_too_nested s ≡ false) × (64 < tests_of s)
+HasFault s (LiteralPast k) =
+    AreMatch s × (is_too_nested s ≡ false) × (tests_of s ≤ 64) × (first_past s ≡ Some k)
+HasFault s NoMemory = ⊤
+
+-- the tokens are a query and have none of these faults
+pub record HasNoFault (s : List Tok) : Type 0 where
+  pub is : AreMatch s
+  pub nested : is_too_nested s ≡ false
+  pub few : tests_of s ≤ 64
+  pub numbers : first_past s ≡ None
+
+-- what a test of the tokens answers
+abbrev pub Tested : List Tok → Result (⊤) PatternFault → Type 0
+Tested s (Ok done) = HasNoFault s
+Tested s (Err f) = HasFault s f
