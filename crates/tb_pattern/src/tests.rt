@@ -1,7 +1,7 @@
 //! What no clause says: that the words of the definitions mean what they should, by faults found by
 //! hand, that a query is checked with ample memory, and that brackets cost no calls.
 
-use crate::PatternFault::{LiteralPast, Syntax, TooManyNodes, TooNested};
+use crate::PatternFault::{LiteralPast, NoMemory, Syntax, TooManyNodes, TooNested};
 use crate::{PatternFault, check_match};
 use std::alloc::{AllocError, Global};
 use std::test::Fail;
@@ -9,11 +9,9 @@ use tb_token::tokens;
 
 fn checked(alloc: Global, text: &[u8]) -> Result<(), PatternFault> {
     if text.len() > 65_536 {
-        return Ok(());
+        return Err(NoMemory);
     }
-    let Ok(found) = tokens(alloc, text) else {
-        return Ok(());
-    };
+    let found = tokens(alloc, text).map_err(|_fault| NoMemory)?;
     check_match(alloc, text, found.as_slice())
 }
 
