@@ -1,12 +1,11 @@
 -- The number of a literal: what its sign and its digits stand for.
-use Rattle.std.proofs.Common.{◌≡◌, ℕ, ◌<◌, Bool, true, false, List, [], ◌∷◌, ◌++◌, length, Option, Some, None, refl, sym, ap, ◌∙◌, arith, append-nil}
+use Rattle.std.proofs.Common.{◌≡◌, ℕ, ◌<◌, Bool, true, false, List, [], ◌∷◌, length, refl, sym, ap, arith, append-nil}
 use Rattle.std.proofs.lemmas.Bool.{and_parts}
 use Rattle.std.specs.Prelude.{nat_lt}
 use Rattle.std.specs.List.{list_all}
 use Rattle.std.specs.Option.{option_and_then}
 use Rattle.tb_number.specs.IntText.{is_digit, number_of, signed, none, minus, StandsFor}
 use Rattle.tb_number.specs.Range.{within_range}
-use Rattle.tb_number.specs.Reading.{integer_of}
 use Rattle.tb_number.proofs.ReadingLaws.{stands-integer_of}
 use Rattle.tb_token.specs.Kinds.{is_number}
 use Rattle.tb_pattern.specs.Faults.{with_sign, literal_in}

@@ -1,5 +1,5 @@
 -- The tests that are written are the nodes of the pattern that is asked for.
-use Rattle.std.proofs.Common.{◌≡◌, ℕ, ◌+◌, Bool, true, false, cond, ◌&&◌, List, [], ◌∷◌, refl, sym, ap, ◌∙◌, arith}
+use Rattle.std.proofs.Common.{◌≡◌, ℕ, ◌+◌, Bool, true, false, cond, ◌&&◌, List, [], ◌∷◌, refl, ap, arith}
 use Rattle.std.specs.Prelude.{⊤, codes}
 use Rattle.std.proofs.lemmas.Bool.{and_parts}
 use Rattle.tb_grammar.specs.Grammar.{Tok, Part, one, both, either, maybe, many, opened, has}
@@ -9,9 +9,9 @@ use Rattle.tb_grammar.proofs.LetterLaws.{none-true, apart-none}
 use Rattle.tb_token.specs.Letters.{letter_of}
 use Rattle.tb_token.specs.declared.token.Kind.TheVariants.{Sign}
 use Rattle.tb_token.specs.Terminals.{comma}
-use Rattle.tb_token.specs.Patterns.{axis, mark, test, conds, edges, edge, match_query}
+use Rattle.tb_token.specs.Patterns.{axis, edges, edge, match_query}
 use Rattle.tb_token.specs.Queries.{rules}
-use Rattle.tb_pattern.specs.Reading.{axis_letters, bang_part}
+use Rattle.tb_pattern.specs.Reading.{axis_letters}
 use Rattle.tb_pattern.specs.Faults.{tests_in, letters_of, tests_of}
 use Rattle.tb_pattern.specs.Plain.{PlainEdges, nodes_in}
 use Rattle.tb_pattern.specs.Value.{edges_in, more_edges_in, edges_from, pattern_of, AskFor}
