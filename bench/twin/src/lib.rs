@@ -1,7 +1,8 @@
-//! What the plain programs share: input, documents, reading and joining them.
+//! What the plain programs share: input, documents, reading and joining them, and the order of commands.
 
 pub mod join;
 pub mod reader;
+pub mod rounds;
 pub mod store;
 mod unescaped;
 

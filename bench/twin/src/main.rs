@@ -7,7 +7,7 @@
 //! by walking the tree and labels nothing. With `times` it tells on standard error how long each step took,
 //! in nanoseconds. It takes scripts without a fault alone. `bench/run` compares the outputs byte for byte.
 
-use std::collections::{BTreeMap, BTreeSet};
+use std::collections::BTreeMap;
 use std::env;
 use std::fs::File;
 use std::io::{self, Write};
@@ -17,6 +17,7 @@ use std::rc::Rc;
 use std::time::Instant;
 use twin::join::{Axis, join_desc};
 use twin::reader::read_tree;
+use twin::rounds::{Marked, Step, rounds};
 use twin::store::{Item, Store};
 use twin::{Node, read_up_to_most};
 
@@ -93,7 +94,8 @@ fn main() -> io::Result<ExitCode> {
         told: BTreeMap::new(),
         parts: (1..=sessions.len()).map(|n| format!("session {n}\n").into_bytes()).collect(),
     };
-    for (session, place) in rounds(&sessions) {
+    for (session, place) in order_of(&sessions) {
+        let (session, place) = (session as usize, place as usize);
         running.act(session, place, &sessions[session][place]);
     }
     // `Stdout` buffers by lines and searches each piece for its last line end. All bytes are here
@@ -153,27 +155,19 @@ fn body<'a>(rest: &mut &'a [u8]) -> &'a [u8] {
     }
 }
 
-/// The order of the commands: in each round each session's next one, unless it hears an untold mark.
-fn rounds(sessions: &[Vec<Command>]) -> Vec<(usize, usize)> {
-    let mut done = vec![0; sessions.len()];
-    let mut told = BTreeSet::new();
-    let mut steps = Vec::new();
-    loop {
-        let before = steps.len();
-        for (at, session) in sessions.iter().enumerate() {
-            match session.get(done[at]) {
-                None => continue,
-                Some(Command::Hear { mark }) if !told.contains(mark.as_slice()) => continue,
-                Some(Command::Tell { mark }) => drop(told.insert(mark.as_slice())),
-                Some(_) => {}
-            }
-            steps.push((at, done[at]));
-            done[at] += 1;
-        }
-        if steps.len() == before {
-            return steps;
+/// The order of the commands.
+fn order_of(sessions: &[Vec<Command>]) -> Vec<Step> {
+    let mut numbers = BTreeMap::new();
+    for command in sessions.iter().flatten() {
+        if let Command::Tell { mark } = command {
+            numbers.insert(mark.as_slice(), numbers.len());
         }
     }
+    rounds(sessions, numbers.len(), |command| match command {
+        Command::Tell { mark } => Marked::Tells(numbers[mark.as_slice()]),
+        Command::Hear { mark } => Marked::Hears(numbers[mark.as_slice()]),
+        _ => Marked::Neither,
+    })
 }
 
 impl<'a> Running<'a> {

@@ -5,6 +5,7 @@
 use std::collections::BTreeMap;
 use std::io::{self, Read};
 use std::time::Instant;
+use twin::rounds::{Marked, Step, rounds};
 
 // As large as the proved program's command, since reading commands from memory is most of the time.
 #[allow(dead_code)]
@@ -15,8 +16,6 @@ enum Command {
     Hear { mark: u32, name: Vec<u8> },
 }
 
-type Step = (u32, u32);
-
 fn main() -> io::Result<()> {
     let mut script = Vec::new();
     io::stdin().lock().read_to_end(&mut script)?;
@@ -25,7 +24,7 @@ fn main() -> io::Result<()> {
     let steps = schedule(&sessions, marks);
     eprintln!("schedule {}", start.elapsed().as_nanos());
     let start = Instant::now();
-    let rounds = rounds(&sessions, marks);
+    let rounds = rounds(&sessions, marks, marked);
     eprintln!("rounds {}", start.elapsed().as_nanos());
     assert!(steps == rounds, "the two orders differ");
     println!("steps {}", steps.len());
@@ -98,26 +97,11 @@ fn schedule(sessions: &[Vec<Command>], marks: usize) -> Vec<Step> {
     }
 }
 
-/// Looks at each session in each round.
-fn rounds(sessions: &[Vec<Command>], marks: usize) -> Vec<Step> {
-    let mut done = vec![0; sessions.len()];
-    let mut told = vec![false; marks];
-    let mut steps = Vec::new();
-    loop {
-        let before = steps.len();
-        for (at, session) in sessions.iter().enumerate() {
-            match session.get(done[at]) {
-                None => continue,
-                Some(Command::Hear { mark, .. }) if !told[*mark as usize] => continue,
-                Some(Command::Tell { mark, .. }) => told[*mark as usize] = true,
-                Some(_) => {}
-            }
-            steps.push((at as u32, done[at] as u32));
-            done[at] += 1;
-        }
-        if steps.len() == before {
-            return steps;
-        }
+fn marked(command: &Command) -> Marked {
+    match command {
+        Command::Tell { mark, .. } => Marked::Tells(*mark as usize),
+        Command::Hear { mark, .. } => Marked::Hears(*mark as usize),
+        _ => Marked::Neither,
     }
 }
 
