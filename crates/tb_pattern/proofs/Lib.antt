@@ -4,5 +4,6 @@ pub mod SyntaxLaws
 pub mod LimitLaws
 pub mod ValueLaws
 pub mod LiteralLaws
+pub mod PartLaws
 pub mod TestLaws
 pub mod WorkedRows

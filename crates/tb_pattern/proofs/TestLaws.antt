@@ -1,8 +1,8 @@
 -- The tests that are written are the nodes of the pattern that is asked for.
-use Rattle.std.proofs.Common.{◌≡◌, ℕ, ◌+◌, Bool, true, false, cond, ◌&&◌, List, [], ◌∷◌, refl, ap, arith}
-use Rattle.std.specs.Prelude.{⊤, codes}
+use Rattle.std.proofs.Common.{◌≡◌, ℕ, ◌+◌, Bool, true, false, cond, List, [], ◌∷◌, refl, ap, arith}
+use Rattle.std.specs.Prelude.{codes}
 use Rattle.std.proofs.lemmas.Bool.{and_parts}
-use Rattle.tb_grammar.specs.Grammar.{Tok, Part, one, both, either, maybe, many, opened, has}
+use Rattle.tb_grammar.specs.Grammar.{Tok, Part, both, maybe, many, has}
 use Rattle.tb_grammar.specs.Words.{Tree, leaf, nothing, pair, first, second, Derives, at_end, by_one, by_both, by_first, by_second, left_out, put_in, no_more, one_more, by_rule}
 use Rattle.tb_grammar.specs.Decided.{are_apart}
 use Rattle.tb_grammar.proofs.LetterLaws.{none-true, apart-none}
@@ -15,36 +15,7 @@ use Rattle.tb_pattern.specs.Reading.{axis_letters}
 use Rattle.tb_pattern.specs.Faults.{tests_in, letters_of, tests_of}
 use Rattle.tb_pattern.specs.Plain.{PlainEdges, nodes_in}
 use Rattle.tb_pattern.specs.Value.{edges_in, more_edges_in, edges_from, pattern_of, AskFor}
-
--- a tree of the part, wherever its tokens stand
-data Of : Part → Tree → Type 0 where
-  of_one : {c : List ℕ} {t : Tok} → has c t.letter ≡ true → Of (one c) (leaf t)
-  of_both : {p q : Part} {v w : Tree} → Of p v → Of q w → Of (both p q) (pair v w)
-  of_first : {p q : Part} {v : Tree} → Of p v → Of (either p q) (first v)
-  of_second : {p q : Part} {v : Tree} → Of q v → Of (either p q) (second v)
-  of_nothing : {p : Part} → Of (maybe p) nothing
-  of_put : {p : Part} {v : Tree} → Of p v → Of (maybe p) v
-  of_none : {p : Part} → Of (many p) nothing
-  of_more : {p : Part} {v w : Tree} → Of p v → Of (many p) w → Of (many p) (pair v w)
-  of_rule : {c : List ℕ} {n : ℕ} {t : Tok} {v : Tree} → has c t.letter ≡ true → Of (rules n) v → Of (opened c n) (pair (leaf t) v)
-
-abbrev AllOf : List Part → List Tree → Type 0
-AllOf [] [] = ⊤
-AllOf [] (v ∷ vs) = ⊥
-AllOf (p ∷ ps) [] = ⊥
-AllOf (p ∷ ps) (v ∷ vs) = Of p v × AllOf ps vs
-
-derived-of : {ps : List Part} {vs : List Tree} {s : List Tok} → Derives rules ps vs s → AllOf ps vs
-derived-of at_end = tt
-derived-of (by_one h d) = (of_one h, derived-of d)
-derived-of (by_both d) = let f = derived-of d in (of_both f.0 f.1.0, f.1.1)
-derived-of (by_first d) = let f = derived-of d in (of_first f.0, f.1)
-derived-of (by_second d) = let f = derived-of d in (of_second f.0, f.1)
-derived-of (left_out d) = (of_nothing, derived-of d)
-derived-of (put_in d) = let f = derived-of d in (of_put f.0, f.1)
-derived-of (no_more d) = (of_none, derived-of d)
-derived-of (one_more d) = let f = derived-of d in (of_more f.0 f.1.0, f.1.1)
-derived-of (by_rule h d) = let f = derived-of d in (of_rule h f.0, f.1)
+use Rattle.tb_pattern.proofs.PartLaws.{Of, of_one, of_both, of_first, of_second, of_nothing, of_put, of_none, of_more, of_rule, derived-of, lacks}
 
 -- the axes among the leaves of trees
 
@@ -77,27 +48,18 @@ axes-derived (by_rule {t = t} h d) =
     let e = count-one (has axis_letters t.letter) _ _ (axes-derived d) in
     omega arith
 
--- no axis stands in the part
-abbrev is_quiet : Part → Bool
-is_quiet (one c) = are_apart c axis_letters
-is_quiet (both p q) = is_quiet p && is_quiet q
-is_quiet (either p q) = is_quiet p && is_quiet q
-is_quiet (maybe p) = is_quiet p
-is_quiet (many p) = is_quiet p
-is_quiet (opened c n) = false
-
 quiet-leaf : (c : List ℕ) (t : Tok) → are_apart c axis_letters ≡ true → has c t.letter ≡ true → axes (leaf t) ≡ 0
 quiet-leaf c t apart h = ap (λ b. cond b 1 0) (apart-none c axis_letters t.letter apart h)
 
-quiet-none : {p : Part} {v : Tree} → Of p v → is_quiet p ≡ true → axes v ≡ 0
+quiet-none : {p : Part} {v : Tree} → Of p v → lacks axis_letters p ≡ true → axes v ≡ 0
 quiet-none (of_one {c = c} {t = t} h) e = quiet-leaf c t e h
 quiet-none (of_both {p = p} {q = q} f g) e =
-    let parts = and_parts (is_quiet p) (is_quiet q) e in
+    let parts = and_parts (lacks axis_letters p) (lacks axis_letters q) e in
     let one_is = quiet-none f parts.0 in
     let two_is = quiet-none g parts.1 in
     omega arith
-quiet-none (of_first {p = p} {q = q} f) e = quiet-none f (and_parts (is_quiet p) (is_quiet q) e).0
-quiet-none (of_second {p = p} {q = q} f) e = quiet-none f (and_parts (is_quiet p) (is_quiet q) e).1
+quiet-none (of_first {p = p} {q = q} f) e = quiet-none f (and_parts (lacks axis_letters p) (lacks axis_letters q) e).0
+quiet-none (of_second {p = p} {q = q} f) e = quiet-none f (and_parts (lacks axis_letters p) (lacks axis_letters q) e).1
 quiet-none of_nothing e = refl
 quiet-none (of_put f) e = quiet-none f e
 quiet-none of_none e = refl
