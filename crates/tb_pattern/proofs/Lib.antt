@@ -6,4 +6,5 @@ pub mod ValueLaws
 pub mod LiteralLaws
 pub mod PartLaws
 pub mod TestLaws
+pub mod NestLaws
 pub mod WorkedRows

@@ -23,9 +23,8 @@ open_behind depth x =
     if is_sign (codes "(") x then depth + 1
     else (if is_sign (codes ")") x then depth - 1 else depth)
 
--- Somewhere more than 32 brackets are open. In a query the brackets round the document's name are
--- closed when the first list of edges opens, and each open list has one pattern node inside
--- which the next list stands. So then more than 32 pattern nodes are inside each other.
+-- Somewhere more than 32 brackets are open. In a query these are pattern nodes inside each other
+-- (`nested-levels` of proofs/NestLaws).
 abbrev pub nests_past : ℕ → List ℕ → Bool
 nests_past depth [] = false
 nests_past depth (x ∷ xs) =

@@ -1,6 +1,6 @@
 -- Annotated patterns as plain data, after TAX (Jagadish and others, VLDB Journal 2002) and tree
 -- logical classes (Paparizos and others, SIGMOD 2004).
-use Rattle.std.specs.Prelude.{ℕ, ◌+◌, Bool, List, [], ◌∷◌}
+use Rattle.std.specs.Prelude.{ℕ, ◌+◌, max, Bool, List, [], ◌∷◌}
 use Rattle.tb_span.specs.declared.item.Axis.{Axis}
 use Rattle.tb_tree.specs.declared.node_test.Test.{Test}
 use Rattle.tb_pattern.specs.declared.cond.Cond.{Cond}
@@ -32,3 +32,9 @@ abbrev pub nodes_in : PlainEdges → ℕ
 nodes_in no_edges = 0
 nodes_in (edge axis mark (matching test conds whole below) others) =
     1 + nodes_in below + nodes_in others
+
+-- how many nodes are inside each other, at most
+abbrev pub levels : PlainEdges → ℕ
+levels no_edges = 0
+levels (edge axis mark (matching test conds whole below) others) =
+    max (1 + levels below) (levels others)
