@@ -72,14 +72,14 @@ module _ (rules : Rules) where
 
   -- How the reading of a part is that of its parts.
 
-  read-end : (p : Part) (ps : List Part) → is_filled p ≡ true → read rules [] (Some (p ∷ ps)) ≡ Some 0
+  pub read-end : (p : Part) (ps : List Part) → is_filled p ≡ true → read rules [] (Some (p ∷ ps)) ≡ Some 0
   read-end p ps filled = rw filled refl
 
-  read-stop : (p : Part) (t : Tok) (u : List Tok) (ps : List Part) → is_filled p ≡ true → has (own_starts p) t.letter ≡ false → read rules (t ∷ u) (Some (p ∷ ps)) ≡ Some (1 + length u)
+  pub read-stop : (p : Part) (t : Tok) (u : List Tok) (ps : List Part) → is_filled p ≡ true → has (own_starts p) t.letter ≡ false → read rules (t ∷ u) (Some (p ∷ ps)) ≡ Some (1 + length u)
   read-stop p t u ps filled none =
       ap (λ o. read rules u o) (takes-filled rules p t.letter ps (after rules ps t.letter) None filled ∙ takes-none p [] t.letter ps none)
 
-  read-both : (p q : Part) (u : List Tok) (ps : List Part) → read rules u (Some (both p q ∷ ps)) ≡ read rules u (Some (p ∷ q ∷ ps))
+  pub read-both : (p q : Part) (u : List Tok) (ps : List Part) → read rules u (Some (both p q ∷ ps)) ≡ read rules u (Some (p ∷ q ∷ ps))
   read-both p q [] ps = by (is_filled p) (is_filled q) (may_end ps)
     where
       by : (a b e : Bool) → ◌≡◌ {A = Option ℕ} (cond (cond (a || b) false true && e) None (Some 0)) (cond (cond a false true && (cond b false true && e)) None (Some 0))
@@ -87,43 +87,43 @@ module _ (rules : Rules) where
       by false b e = refl
   read-both p q (t ∷ u) ps = refl
 
-  read-first : (p q : Part) (t : Tok) (u : List Tok) (ps : List Part) → has (own_starts p) t.letter ≡ true → read rules (t ∷ u) (Some (either p q ∷ ps)) ≡ read rules (t ∷ u) (Some (p ∷ ps))
+  pub read-first : (p q : Part) (t : Tok) (u : List Tok) (ps : List Part) → has (own_starts p) t.letter ≡ true → read rules (t ∷ u) (Some (either p q ∷ ps)) ≡ read rules (t ∷ u) (Some (p ∷ ps))
   read-first p q t u ps here =
       let e : after rules (either p q ∷ ps) t.letter ≡ after rules (p ∷ ps) t.letter = rw here refl in
       ap (λ o. read rules u o) e
 
-  read-second : (p q : Part) (t : Tok) (u : List Tok) (ps : List Part) → has (own_starts p) t.letter ≡ false → read rules (t ∷ u) (Some (either p q ∷ ps)) ≡ read rules (t ∷ u) (Some (q ∷ ps))
+  pub read-second : (p q : Part) (t : Tok) (u : List Tok) (ps : List Part) → has (own_starts p) t.letter ≡ false → read rules (t ∷ u) (Some (either p q ∷ ps)) ≡ read rules (t ∷ u) (Some (q ∷ ps))
   read-second p q t u ps other =
       let e : after rules (either p q ∷ ps) t.letter ≡ after rules (q ∷ ps) t.letter = rw other refl in
       ap (λ o. read rules u o) e
 
-  read-put_in : (p : Part) (t : Tok) (u : List Tok) (ps : List Part) → has (own_starts p) t.letter ≡ true → read rules (t ∷ u) (Some (maybe p ∷ ps)) ≡ read rules (t ∷ u) (Some (p ∷ ps))
+  pub read-put_in : (p : Part) (t : Tok) (u : List Tok) (ps : List Part) → has (own_starts p) t.letter ≡ true → read rules (t ∷ u) (Some (maybe p ∷ ps)) ≡ read rules (t ∷ u) (Some (p ∷ ps))
   read-put_in p t u ps here =
       let e : after rules (maybe p ∷ ps) t.letter ≡ after rules (p ∷ ps) t.letter = rw here refl in
       ap (λ o. read rules u o) e
 
-  read-left_out : (p : Part) (t : Tok) (u : List Tok) (ps : List Part) → has (own_starts p) t.letter ≡ false → read rules (t ∷ u) (Some (maybe p ∷ ps)) ≡ read rules (t ∷ u) (Some ps)
+  pub read-left_out : (p : Part) (t : Tok) (u : List Tok) (ps : List Part) → has (own_starts p) t.letter ≡ false → read rules (t ∷ u) (Some (maybe p ∷ ps)) ≡ read rules (t ∷ u) (Some ps)
   read-left_out p t u ps other =
       let e : after rules (maybe p ∷ ps) t.letter ≡ after rules ps t.letter = rw other refl in
       ap (λ o. read rules u o) e
 
-  read-one_more : (p : Part) (t : Tok) (u : List Tok) (ps : List Part) → is_filled p ≡ true → has (own_starts p) t.letter ≡ true → read rules (t ∷ u) (Some (many p ∷ ps)) ≡ read rules (t ∷ u) (Some (p ∷ many p ∷ ps))
+  pub read-one_more : (p : Part) (t : Tok) (u : List Tok) (ps : List Part) → is_filled p ≡ true → has (own_starts p) t.letter ≡ true → read rules (t ∷ u) (Some (many p ∷ ps)) ≡ read rules (t ∷ u) (Some (p ∷ many p ∷ ps))
   read-one_more p t u ps filled here =
       let same = takes-filled rules p t.letter (many p ∷ ps) None (after rules (many p ∷ ps) t.letter) filled in
       let e : after rules (many p ∷ ps) t.letter ≡ takes rules p t.letter (many p ∷ ps) None = rw here refl in
       ap (λ o. read rules u o) (e ∙ same)
 
-  read-no_more : (p : Part) (t : Tok) (u : List Tok) (ps : List Part) → has (own_starts p) t.letter ≡ false → read rules (t ∷ u) (Some (many p ∷ ps)) ≡ read rules (t ∷ u) (Some ps)
+  pub read-no_more : (p : Part) (t : Tok) (u : List Tok) (ps : List Part) → has (own_starts p) t.letter ≡ false → read rules (t ∷ u) (Some (many p ∷ ps)) ≡ read rules (t ∷ u) (Some ps)
   read-no_more p t u ps other =
       let e : after rules (many p ∷ ps) t.letter ≡ after rules ps t.letter = rw other refl in
       ap (λ o. read rules u o) e
 
-  read-one : (c : List ℕ) (t : Tok) (u : List Tok) (ps : List Part) → has c t.letter ≡ true → read rules (t ∷ u) (Some (one c ∷ ps)) ≡ read rules u (Some ps)
+  pub read-one : (c : List ℕ) (t : Tok) (u : List Tok) (ps : List Part) → has c t.letter ≡ true → read rules (t ∷ u) (Some (one c ∷ ps)) ≡ read rules u (Some ps)
   read-one c t u ps here =
       let e : after rules (one c ∷ ps) t.letter ≡ Some ps = rw here refl in
       ap (λ o. read rules u o) e
 
-  read-rule : (c : List ℕ) (n : ℕ) (t : Tok) (u : List Tok) (ps : List Part) → has c t.letter ≡ true → read rules (t ∷ u) (Some (opened c n ∷ ps)) ≡ read rules u (Some (rules n ∷ ps))
+  pub read-rule : (c : List ℕ) (n : ℕ) (t : Tok) (u : List Tok) (ps : List Part) → has c t.letter ≡ true → read rules (t ∷ u) (Some (opened c n ∷ ps)) ≡ read rules u (Some (rules n ∷ ps))
   read-rule c n t u ps here =
       let e : after rules (opened c n ∷ ps) t.letter ≡ Some (rules n ∷ ps) = rw here refl in
       ap (λ o. read rules u o) e

@@ -1,9 +1,14 @@
 pub mod Views
 pub mod ReadingLaws
 pub mod SyntaxLaws
-pub mod LimitLaws
 pub mod ValueLaws
+pub mod BuildingLaws
+pub mod ListLaws
+pub mod NodeTestLaws
 pub mod LiteralLaws
+pub mod CondLaws
+pub mod EdgeLaws
+pub mod QueryBuilding
 pub mod PartLaws
 pub mod TestLaws
 pub mod NestLaws

@@ -1,5 +1,5 @@
 -- The faults of a `MATCH` query, in the order in which they are tried.
-use Rattle.std.specs.Prelude.{◌≡◌, ℕ, ◌+◌, ◌-◌, ◌<◌, ◌≤◌, Bool, true, false, ◌&&◌, ◌||◌, ◌==◌, nat_lt, if◌then◌else◌, List, [], ◌∷◌, map, codes, ℤ, Option, Some, None, Result, Ok, Err, ⊤}
+use Rattle.std.specs.Prelude.{◌≡◌, ℕ, ◌+◌, ◌-◌, ◌<◌, ◌≤◌, Bool, true, false, ◌&&◌, ◌||◌, ◌==◌, nat_lt, if◌then◌else◌, List, [], ◌∷◌, map, codes, ℤ, Option, Some, None, ⊤}
 use Rattle.std.specs.Option.{option_and_then}
 use Rattle.tb_grammar.specs.Grammar.{Tok, has}
 use Rattle.tb_grammar.specs.Words.{IsWrongAt}
@@ -86,8 +86,3 @@ pub record HasNoFault (s : List Tok) : Type 0 where
   pub nested : is_too_nested s ≡ false
   pub few : tests_of s ≤ 64
   pub numbers : first_past s ≡ None
-
--- what a test of the tokens answers
-abbrev pub Tested : List Tok → Result (⊤) PatternFault → Type 0
-Tested s (Ok done) = HasNoFault s
-Tested s (Err f) = HasFault s f

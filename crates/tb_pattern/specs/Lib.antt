@@ -9,3 +9,6 @@ pub mod Syntax
 pub mod Reading
 pub mod Faults
 pub mod Value
+pub mod Building
+pub mod BuiltParts
+pub mod Calls

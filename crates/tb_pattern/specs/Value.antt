@@ -91,8 +91,13 @@ conds_of _ = []
 abbrev mutual
   -- [ "(" edge { "," edge } ")" ]
   pub edges_in : Tree → PlainEdges
-  edges_in (pair opening (pair (pair v rest) closing)) = edges_from v (more_edges_in rest)
+  edges_in (pair opening behind) = edges_behind behind
   edges_in _ = no_edges
+
+  -- edge { "," edge } ")"
+  pub edges_behind : Tree → PlainEdges
+  edges_behind (pair (pair v rest) closing) = edges_from v (more_edges_in rest)
+  edges_behind _ = no_edges
 
   -- { "," edge }
   pub more_edges_in : Tree → PlainEdges

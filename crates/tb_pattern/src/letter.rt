@@ -1,15 +1,8 @@
-//! Letters: what the grammar sees of a token.
+//! The letters that patterns are read by.
 
-ghost use Rattle.std.specs.Prelude.{◌≡◌, ◌≤◌, IfOk, length, map};
-ghost use Rattle.std.specs.Str.{bytes_eq};
+ghost use Rattle.std.specs.Prelude.{◌≡◌};
 ghost use Rattle.tb_grammar.specs.Grammar.{has};
-ghost use Rattle.tb_token.specs.Letters.{letter_of, bytes_of, place_in, capital_letter};
-ghost use Rattle.tb_token.specs.Kinds.{signs};
 ghost use Rattle.tb_pattern.specs.Reading.{name_letters};
-ghost use Rattle.tb_token.specs.Names.{words};
-
-use std::alloc::{AllocError, Global};
-use tb_token::{Kind, Token};
 
 pub const NAME: u8 = 0;
 
@@ -67,111 +60,7 @@ pub const DOCUMENT: u8 = 78;
 pub fn has(letters: &[u8], letter: u8) -> bool
     ensures { result ≡ has letters.now letter }
 {
-    'letters: for one in letters {
-        if *one == letter {
-            return true;
-        }
-    }
-    false
-}
-
-/// The letter of a token whose bytes are these. Memory is taken for a word alone.
-pub fn letter_of(alloc: Global, kind: Kind, bytes: &[u8]) -> Result<u8, AllocError>
-    ensures { IfOk result (λ letter. letter ≡ letter_of kind bytes.now) }
-{
-    match kind {
-        Kind::Name => Ok(NAME),
-        Kind::Variable => Ok(1),
-        Kind::Number => Ok(NUMBER),
-        Kind::Quoted => Ok(QUOTED),
-        Kind::TextTest => Ok(TEXT_TEST),
-        Kind::Sign => Ok(8 + place_among_signs(bytes)),
-        Kind::Word => Ok(64 + place_among_words(capitals(alloc, bytes)?.as_slice())),
-    }
-}
-
-fn place_among_signs(bytes: &[u8]) -> u8
-    ensures place { result ≡ place_in bytes.now signs }
-    ensures few { result ≤ 24 }
-{
-    place_in(
-        bytes,
-        &[
-            b"//", b"/>", b"/", b"</", b"<=", b"<", b">=", b">", b"!=", b"!", b"=", b":=", b"(",
-            b")", b"[", b"]", b"{", b"}", b",", b"@", b"*", b"-", b"+", b"?",
-        ],
-    )
-}
-
-fn place_among_words(bytes: &[u8]) -> u8
-    ensures place { result ≡ place_in bytes.now words }
-    ensures few { result ≤ 19 }
-{
-    place_in(
-        bytes,
-        &[
-            b"FOR",
-            b"LET",
-            b"IN",
-            b"ALLOWING",
-            b"EMPTY",
-            b"WHERE",
-            b"AND",
-            b"GROUP",
-            b"ORDER",
-            b"BY",
-            b"ASCENDING",
-            b"DESCENDING",
-            b"RETURN",
-            b"MATCH",
-            b"DOCUMENT",
-            b"COUNT",
-            b"SUM",
-            b"MIN",
-            b"MAX",
-        ],
-    )
-}
-
-/// How far the bytes stand in the list.
-fn place_in(bytes: &[u8], texts: &[&[u8]]) -> u8
-    requires { length texts.now ≤ 64 }
-    ensures place { result ≡ place_in bytes.now (map (λ text. text.now) texts.now) }
-    ensures few { result ≤ length texts.now }
-{
-    'texts: for (at, text) in texts.iter().enumerate() {
-        if is_same(bytes, text) {
-            return at as u8;
-        }
-    }
-    texts.len() as u8
-}
-
-fn is_same(a: &[u8], b: &[u8]) -> bool
-    ensures { result ≡ bytes_eq a.now b.now }
-{
-    a == b
-}
-
-fn capitals(alloc: Global, bytes: &[u8]) -> Result<Vec<u8>, AllocError>
-    ensures { IfOk result (λ capitals. capitals.items ≡ map capital_letter bytes.now) }
-{
-    let mut capitals = Vec::with_capacity(alloc, bytes.len())?;
-    'bytes: for byte in bytes {
-        capitals.push(capital_letter(*byte))?;
-    }
-    Ok(capitals)
-}
-
-/// The capital of a small letter; any other byte stays.
-fn capital_letter(byte: u8) -> u8
-    ensures { result ≡ capital_letter byte }
-{
-    if byte >= b'a' && byte <= b'z' {
-        byte - 32
-    } else {
-        byte
-    }
+    letters.contains(&letter)
 }
 
 /// Whether the letter is that of a name, which any word is too.

@@ -5,20 +5,25 @@
 //! a query, or none.
 #![tactic(auto)]
 
+mod build;
 mod check;
 mod cond;
+mod conds;
 mod fault;
+mod front;
 mod letter;
 mod limits;
+mod node_test;
 mod pattern;
+mod query;
 mod reading;
 mod syntax;
 mod witness;
 
-pub use check::check_match;
 pub use cond::{Cond, Literal};
 pub use fault::PatternFault;
 pub use pattern::{Edge, Mark, PNode, Pattern};
+pub use query::read_pattern;
 pub use witness::{Offer, Witness};
 
 #[cfg(test)]

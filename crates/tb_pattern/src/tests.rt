@@ -1,18 +1,22 @@
-//! What no clause says: that the words of the definitions mean what they should, by faults found by
-//! hand, that a query is checked with ample memory, and that brackets cost no calls.
+//! What no clause says: that the words of the definitions mean what they should, by patterns and
+//! faults found by hand, and that a query is read with ample memory.
 
 use crate::PatternFault::{LiteralPast, NoMemory, Syntax, TooManyNodes, TooNested};
-use crate::{PatternFault, check_match};
+use crate::{Pattern, PatternFault, read_pattern};
 use std::alloc::{AllocError, Global};
 use std::test::Fail;
 use tb_token::tokens;
 
-fn checked(alloc: Global, text: &[u8]) -> Result<(), PatternFault> {
+mod told;
+
+use told::tell;
+
+fn read(alloc: Global, text: &[u8]) -> Result<Pattern, PatternFault> {
     if text.len() > 65_536 {
         return Err(NoMemory);
     }
     let found = tokens(alloc, text).map_err(|_fault| NoMemory)?;
-    check_match(alloc, text, found.as_slice())
+    read_pattern(alloc, text, found.as_slice())
 }
 
 // The front, so many times the middle, and the back.
@@ -33,8 +37,49 @@ fn repeated(
 }
 
 #[test]
+fn patterns_are_read_as_they_are_written(rt: HostRuntime) -> Result<(), Fail> {
+    let rows: [(&[u8], &[u8]); 7] = [
+        (
+            b"match document(\"d\") (/- a, /?*, /+ @b, //* @ *, //-text(), /- FOR)",
+            b"d: child one a; child optional *; child some @b; descendant any @*; \
+              descendant one text(); child one FOR; ",
+        ),
+        (
+            b"MATCH document('it\"s') (/- a (/- b (/- c), /? d), /- e)",
+            b"it\"s: child one a (child one b (child one c; ) child optional d; ) child one e; ",
+        ),
+        (
+            b"MATCH document('') (/- a!, /- b ! (/- c), /- d (/- e!))",
+            b": child one a !; child one b ! (child one c; ) child one d (child one e !; ) ",
+        ),
+        (
+            b"MATCH document('d') (/-a[= 1 AND != -2 AND < 03 AND <= - 4 AND > 5 AND >= '-6'])",
+            b"d: child one a [= 1] [!= -2] [< 3] [<= -4] [> 5] [>= '-6']; ",
+        ),
+        (
+            b"MATCH document('d') (/- a [= 170141183460469231731687303715884105727]!)",
+            b"d: child one a [= 170141183460469231731687303715884105727] !; ",
+        ),
+        (
+            b"MATCH document('d') (/- a [= -170141183460469231731687303715884105728])",
+            b"d: child one a [= -170141183460469231731687303715884105728]; ",
+        ),
+        (
+            b"MATCH document('d') (/- a [= -0 AND = '' AND = \"x AND y\"])",
+            b"d: child one a [= 0] [= ''] [= 'x AND y']; ",
+        ),
+    ];
+    for (text, wanted) in rows {
+        let pattern = read(rt.alloc(), text).map_err(|_fault| "refused")?;
+        let told = tell(rt.alloc(), &pattern).map_err(|_fault| "memory")?;
+        assert_eq!(rt; told.as_slice(), wanted);
+    }
+    Ok(())
+}
+
+#[test]
 fn the_first_fault_is_told(rt: HostRuntime) -> Result<(), Fail> {
-    let rows: [(&[u8], Option<PatternFault>); 9] = [
+    let rows: [(&[u8], Option<PatternFault>); 10] = [
         (
             b"MATCH document('d') (//- a [>= 3 AND < - 4]! (/? @b, //* text()), /+ FOR)",
             None,
@@ -53,9 +98,10 @@ fn the_first_fault_is_told(rt: HostRuntime) -> Result<(), Fail> {
         (b"MATCH document('d') ()", Some(Syntax(7))),
         (b"MATCH document('d') (/- a (/- b)", Some(Syntax(15))),
         (b"MATCH document('d') (/- a) (/- b)", Some(Syntax(11))),
+        (b"MATCH document('d') (/- text ())", Some(Syntax(11))),
     ];
     for (text, wanted) in rows {
-        assert_eq!(rt; checked(rt.alloc(), text).err(), wanted);
+        assert_eq!(rt; read(rt.alloc(), text).err(), wanted);
     }
     Ok(())
 }
@@ -71,13 +117,13 @@ fn wide_and_deep_queries_are_refused(rt: HostRuntime) -> Result<(), Fail> {
     ];
     for (middle, times, back, wanted) in rows {
         let text = repeated(rt.alloc(), front, middle, times, back).map_err(|_fault| "memory")?;
-        assert_eq!(rt; checked(rt.alloc(), text.as_slice()).err(), wanted);
+        assert_eq!(rt; read(rt.alloc(), text.as_slice()).err(), wanted);
     }
     for (times, wanted) in [(31, None), (32, Some(TooNested))] {
         let closed = repeated(rt.alloc(), b")", b")", times, b"").map_err(|_fault| "memory")?;
         let deep = repeated(rt.alloc(), front, b"(/-a", times, closed.as_slice());
         let deep = deep.map_err(|_fault| "memory")?;
-        assert_eq!(rt; checked(rt.alloc(), deep.as_slice()).err(), wanted);
+        assert_eq!(rt; read(rt.alloc(), deep.as_slice()).err(), wanted);
     }
     Ok(())
 }

@@ -5,7 +5,8 @@ use Rattle.std.specs.Str.{bytes_eq}
 use Rattle.std.specs.Cmp.Lexicographic.{bytes_decides}
 use Rattle.std.proofs.lemmas.Bool.{and_parts}
 use Rattle.std.specs.Prelude.{map}
-use Rattle.tb_token.specs.Names.{small_letter, words, is_word, is_among}
+use Rattle.std.specs.Char.{to_ascii_lowercase}
+use Rattle.tb_token.specs.Names.{words, is_word, is_among}
 
 pub or-by : {P : Type 0} (x y : Bool) → (x ≡ true → P) → (y ≡ true → P) → (x || y) ≡ true → P
 or-by true y one two e = one refl
@@ -20,11 +21,11 @@ among-passes test bytes (text ∷ texts) all among =
     (λ there. among-passes test bytes texts parts.1 there) among
 
 -- what all words have, in capitals and in small letters
-pub word-passes : (test : List ℕ → Bool) (bytes : List ℕ) → list_all test words ≡ true → list_all test (map (map small_letter) words) ≡ true → is_word bytes ≡ true → test bytes ≡ true
+pub word-passes : (test : List ℕ → Bool) (bytes : List ℕ) → list_all test words ≡ true → list_all test (map (map to_ascii_lowercase) words) ≡ true → is_word bytes ≡ true → test bytes ≡ true
 word-passes test bytes capital small word =
-    or-by (is_among bytes words) (is_among bytes (map (map small_letter) words))
+    or-by (is_among bytes words) (is_among bytes (map (map to_ascii_lowercase) words))
     (λ among. among-passes test bytes words capital among)
-    (λ among. among-passes test bytes (map (map small_letter) words) small among) word
+    (λ among. among-passes test bytes (map (map to_ascii_lowercase) words) small among) word
 
 pub not-true : (x : Bool) → not x ≡ true → x ≡ false
 not-true true e = absurd (let d : ◌≡◌ {A = Bool} false true = e in cc)

@@ -1,9 +1,10 @@
 -- Tokens as the grammar of queries sees them.
-use Rattle.std.specs.Prelude.{ℕ, ◌+◌, ◌-◌, ◌&&◌, nat_le, if◌then◌else◌, List, [], ◌∷◌, take, drop, map}
+use Rattle.std.specs.Prelude.{◌≡◌, ℕ, ◌+◌, ◌-◌, true, if◌then◌else◌, List, [], ◌∷◌, take, drop, map, ⊤}
+use Rattle.std.specs.Char.{to_ascii_uppercase}
 use Rattle.std.specs.Str.{bytes_eq}
 use Rattle.tb_grammar.specs.Grammar.{Tok}
 use Rattle.tb_token.specs.Names.{words}
-use Rattle.tb_token.specs.Kinds.{signs}
+use Rattle.tb_token.specs.Kinds.{is_number, signs}
 use Rattle.tb_token.specs.declared.token.Kind.{Kind}
 use Rattle.tb_token.specs.declared.token.Kind.TheVariants.{Name, Word, Variable, Number, Quoted, TextTest, Sign}
 use Rattle.tb_token.specs.declared.token.Token.{Token}
@@ -13,10 +14,6 @@ abbrev pub place_in : List ℕ → List (List ℕ) → ℕ
 place_in bytes [] = 0
 place_in bytes (t ∷ ts) = if bytes_eq bytes t then 0 else 1 + place_in bytes ts
 
--- the capital of a small letter; any other byte stays
-abbrev pub capital_letter : ℕ → ℕ
-capital_letter b = if nat_le 97 b && nat_le b 122 then b - 32 else b
-
 -- The letter of a token. Each word has its own, whatever its case, and so has each sign.
 abbrev pub letter_of : Kind → List ℕ → ℕ
 letter_of Name bytes = 0
@@ -25,19 +22,27 @@ letter_of Number bytes = 2
 letter_of Quoted bytes = 3
 letter_of TextTest bytes = 4
 letter_of Sign bytes = 8 + place_in bytes signs
-letter_of Word bytes = 64 + place_in (map capital_letter bytes) words
+letter_of Word bytes = 64 + place_in (map to_ascii_uppercase bytes) words
 
 -- a token's bytes
 abbrev pub bytes_of : List ℕ → Token → List ℕ
 bytes_of text t = take (t.to - t.from) (drop t.from text)
 
+-- the token of this number for the grammar
+abbrev pub tok_of : List ℕ → Token → ℕ → Tok
+tok_of text t n =
+    record { letter = letter_of t.kind (bytes_of text t); bytes = bytes_of text t; number = n }
+
 -- the tokens of a text for the grammar, the first of which has number n
 abbrev pub toks_from : ℕ → List ℕ → List Token → List Tok
 toks_from n text [] = []
-toks_from n text (t ∷ ts) =
-    record { letter = letter_of t.kind (bytes_of text t); bytes = bytes_of text t; number = n }
-    ∷ toks_from (n + 1) text ts
+toks_from n text (t ∷ ts) = tok_of text t n ∷ toks_from (n + 1) text ts
 
 -- the tokens of a text for the grammar, with numbers from 1
 abbrev pub toks_of : List ℕ → List Token → List Tok
 toks_of text ts = toks_from 1 text ts
+
+-- each token with the letter of a number is digits
+abbrev pub HaveDigits : List Tok → Type 0
+HaveDigits [] = ⊤
+HaveDigits (t ∷ s) = (t.letter ≡ letter_of Number [] → is_number t.bytes ≡ true) × HaveDigits s

@@ -1,5 +1,6 @@
 -- Names, and the words of the language.
-use Rattle.std.specs.Prelude.{ℕ, ◌+◌, Bool, true, false, ◌&&◌, ◌||◌, ◌==◌, nat_le, if◌then◌else◌, List, [], ◌∷◌, map, codes}
+use Rattle.std.specs.Prelude.{ℕ, Bool, true, false, ◌&&◌, ◌||◌, ◌==◌, List, [], ◌∷◌, map, codes}
+use Rattle.std.specs.Char.{to_ascii_lowercase}
 use Rattle.std.specs.List.{list_any}
 use Rattle.std.specs.Str.{bytes_eq}
 use Rattle.tb_token.specs.Bytes.{is_digit, starts_name}
@@ -32,14 +33,10 @@ words =
     ∷ codes "DESCENDING" ∷ codes "RETURN" ∷ codes "MATCH" ∷ codes "DOCUMENT" ∷ codes "COUNT"
     ∷ codes "SUM" ∷ codes "MIN" ∷ codes "MAX" ∷ []
 
--- the small letter of a capital; any other byte stays
-abbrev pub small_letter : ℕ → ℕ
-small_letter b = if nat_le 65 b && nat_le b 90 then b + 32 else b
-
 -- the bytes are one of these texts
 abbrev pub is_among : List ℕ → List (List ℕ) → Bool
 is_among bytes texts = list_any (bytes_eq bytes) texts
 
 -- a word, all of it in capitals or all in small letters
 abbrev pub is_word : List ℕ → Bool
-is_word bytes = is_among bytes words || is_among bytes (map (map small_letter) words)
+is_word bytes = is_among bytes words || is_among bytes (map (map to_ascii_lowercase) words)

@@ -9,6 +9,8 @@ mod bytes;
 mod cut;
 mod fault;
 mod front;
+mod letter;
+mod lexeme;
 mod names;
 mod query_laws;
 mod signs;
@@ -16,6 +18,7 @@ mod token;
 
 pub use cut::tokens;
 pub use fault::LexFault;
+pub use lexeme::{Lexeme, lexemes};
 pub use query_laws::laws_of_queries;
 pub use token::{Kind, Token};
 

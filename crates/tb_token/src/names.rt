@@ -87,7 +87,7 @@ fn is_among(name: &[u8], words: &[&[u8]]) -> bool
     false
 }
 
-fn is_same(a: &[u8], b: &[u8]) -> bool
+pub fn is_same(a: &[u8], b: &[u8]) -> bool
     ensures { result ≡ bytes_eq a.now b.now }
 {
     a == b

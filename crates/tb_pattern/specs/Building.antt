@@ -1,0 +1,43 @@
+-- What the program builds of a query without fault, from the front of its tokens on.
+use Rattle.std.specs.Prelude.{◌≡◌, ℕ, Bool, false, List, [], ◌∷◌, Some, None}
+use Rattle.tb_grammar.specs.Grammar.{Tok, Part, has}
+use Rattle.tb_grammar.specs.Words.{Tree, leaf, nothing, Derives}
+use Rattle.tb_grammar.specs.Reading.{read}
+use Rattle.tb_token.specs.Letters.{HaveDigits}
+use Rattle.tb_token.specs.Queries.{rules}
+use Rattle.tb_pattern.specs.Faults.{past_behind}
+
+-- the next token as a tree
+abbrev pub next : List Tok → Tree
+next [] = nothing
+next (t ∷ s) = leaf t
+
+-- there is a next token, and its letter is among these
+abbrev pub begins : List ℕ → List Tok → Bool
+begins cs [] = false
+begins cs (t ∷ s) = has cs t.letter
+
+-- These parts come next and nothing behind them, and no number is past its range, be there a `-`
+-- before the first token or not.
+pub record Come (minus : Bool) (ps : List Part) (s : List Tok) : Type 0 where
+  pub parts : read rules s (Some ps) ≡ None
+  pub digits : HaveDigits s
+  pub numbers : past_behind minus s ≡ None
+
+-- the part stands at the front, its tree is such a one, and the other parts come next
+pub record IsBuilt (p : Part) (Is : Tree → Type 0) (ps : List Part) (s left : List Tok)
+    : Type 0 where
+  pub minus : Bool
+  pub behind : Come minus ps left
+  pub tree : Tree
+  pub is : Is tree
+  pub derived : (vs : List Tree) → Derives rules ps vs left → Derives rules (p ∷ ps) (tree ∷ vs) s
+
+-- wherever the part comes next, whatever comes behind it
+abbrev pub Builds : Part → (Tree → Type 0) → List Tok → List Tok → Type 0
+Builds p Is s left =
+    (ps : List Part) (minus : Bool) → Come minus (p ∷ ps) s → IsBuilt p Is ps s left
+
+-- likewise where no `-` stands before it
+abbrev pub BuildsApart : Part → (Tree → Type 0) → List Tok → List Tok → Type 0
+BuildsApart p Is s left = (ps : List Part) → Come false (p ∷ ps) s → IsBuilt p Is ps s left
