@@ -127,3 +127,33 @@ id_and_texts =
 
 pub written-joined : lines id_and_texts written ≡ codes "(witness\n(@id\n-7\n)@id\n-onetwo\n)witness\n"
 written-joined = refl
+
+-- the three pairs of nested `a` as text
+pub nested-lines : lines (a_in_a Descendant) nested
+    ≡ codes "(witness\n(a\n(a\n)a\n)a\n)witness\n(witness\n(a\n(a\n)a\n)a\n)witness\n(witness\n(a\n(a\n)a\n)a\n)witness\n"
+nested-lines = refl
+
+-- `b` without `c`, where none need be
+pub alone-lines : lines (c_in_b Optional) alone ≡ codes "(witness\n(b\n)b\n)witness\n"
+alone-lines = refl
+
+-- `a` below `x` below the root `r`: it is a descendant of the root, and no child
+abbrev grandchild : Plain
+grandchild = elem (codes "r") (kid (elem (codes "x") (kid (elem (codes "a") no_kids) no_kids)) no_kids)
+
+abbrev a_in_r : Axis → PlainEdges
+a_in_r axis = only Child One (named (codes "r") (only axis One (named (codes "a") no_edges)))
+
+pub grandchild-as_child : length (naive_witnesses (a_in_r Child) grandchild) ≡ 0
+grandchild-as_child = refl
+
+pub grandchild-as_descendant : length (naive_witnesses (a_in_r Descendant) grandchild) ≡ 1
+grandchild-as_descendant = refl
+
+-- `(/- r (/- p !, /- text()))`: a node marked `!` brings its own attributes and kids
+abbrev whole_p : PlainEdges
+whole_p =
+    only Child One (named (codes "r") (edge Child One (matching (Name (codes "p")) [] true no_edges) (only Child One (matching AnyText [] false no_edges))))
+
+pub written-lines : lines whole_p written ≡ codes "(witness\n(r\nAid CDATA 7\n(p\n-one\n)p\n-two\n)r\n)witness\n"
+written-lines = refl

@@ -1,8 +1,8 @@
 //! Annotated patterns: what a `MATCH` query asks for, and the witnesses that answer it.
 //!
-//! Readers and matchers of queries use its types, and state their clauses by its `specs/`. What is
-//! proved is that a copy of a pattern is the same, and that `check_match` answers the first fault of
-//! a query, or none.
+//! What the program promises of a query's answer is stated by its `specs/`. What is proved is that
+//! `read_pattern` gives the pattern that a query's tokens ask for, or the first of their faults, and
+//! that a copy of a pattern is the same.
 #![tactic(auto)]
 
 mod build;

@@ -31,8 +31,8 @@ use Rattle.tb_stackjoin.proofs.ListedLaws.{IsRelatedPair, listed-related}
 use Rattle.tb_stackjoin.proofs.SortLaws.{by_ancestor}
 use Rattle.tb_stackjoin.proofs.Filters.{filter_swap, filter-map, filter-keep, flat_map_same}
 use Rattle.tb_stackjoin.proofs.Ranges.{All-range}
+use Rattle.tb_pattern.specs.Witness.{naive_witnesses, numbers_in}
 use Rattle.tb_top.specs.Answer.{two_names}
-use Rattle.tb_top.specs.Witness.{naive_witnesses, numbers_in}
 use Rattle.tb_top.specs.Pairs.{numbers_of, named, seconds_under, firsts_in}
 use Rattle.tb_top.specs.Joined.{item_at, match_at, ArePlaces}
 use Rattle.tb_top.proofs.WitnessLaws.{matches-naive}

@@ -1,14 +1,13 @@
 -- What bytes are read as can be run: it meets what the calls that run a script ask for.
-use Rattle.std.proofs.Common.{◌≡◌, ℕ, ◌≤◌, Bool, true, false, Option, Some, None, List, length, nat_lt, cond, refl, sym, ap, ◌∙◌, subst}
+use Rattle.std.proofs.Common.{◌≡◌, ℕ, ◌≤◌, Bool, true, false, Option, Some, None, List, length, nat_lt, cond, refl}
 use Rattle.std.specs.Option.{option_map}
 use Rattle.std.proofs.lemmas.Bool.{ltb-false}
 use Rattle.tb_script.specs.Entries.{entries_of}
 use Rattle.tb_script.specs.Faults.{at_start, first_fault, or_else}
 use Rattle.tb_script.specs.Sessions.{marks_of, unknown_mark}
 use Rattle.tb_script.specs.Rounds.{stuck_line}
-use Rattle.tb_script.specs.Runnable.{AreRunnable, IsRunnable}
-use Rattle.tb_script.specs.Calls.{IsReadAs, sessions_of, script_fault, fault_among}
-use Rattle.tb_script.specs.declared.entry.Entry.{Entry}
+use Rattle.tb_script.specs.Runnable.{IsRunnable}
+use Rattle.tb_script.specs.Calls.{IsReadAs, sessions_of, fault_among}
 use Rattle.tb_script.specs.declared.command.Workload.{Workload}
 use Rattle.tb_script.specs.declared.fault.ScriptFault.{ScriptFault}
 use Rattle.tb_script.specs.declared.fault.ScriptFault.TheVariants.{InputTooLong, MarkStuck}

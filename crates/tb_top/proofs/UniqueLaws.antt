@@ -1,9 +1,7 @@
 -- A script has one run, and so one transcript.
-use Rattle.std.proofs.Common.{◌≡◌, ℕ, suc, ◌+◌, ◌≤◌, Option, Some, None, List, [], ◌∷◌, ◌++◌, map, take, length, refl, sym, ap, ap₂, ◌∙◌, subst, arith, append-nil, append_assoc}
-use Rattle.std.specs.List.{AllByRecursion, flat_map}
-use Rattle.std.proofs.lemmas.List.{map-append, length-append, length-map, take-append-le, take_at}
-use Rattle.std.proofs.lemmas.List.Concat.{flat_map-append}
-use Rattle.tb_tree.specs.Plain.{Plain}
+use Rattle.std.proofs.Common.{◌≡◌, ℕ, suc, Option, Some, None, List, [], ◌∷◌, ◌++◌, map, take, length, refl, sym, ap, ap₂, ◌∙◌, subst, arith, append-nil, append_assoc}
+use Rattle.std.specs.List.{AllByRecursion}
+use Rattle.std.proofs.lemmas.List.{map-append, length-append, length-map, take_at}
 use Rattle.tb_esis.proofs.CompleteLaws.{read-clean, read-unique}
 use Rattle.tb_esis.specs.declared.fault.EsisFault.{EsisFault}
 use Rattle.tb_script.specs.Runnable.{commands_in}
@@ -22,7 +20,7 @@ use Rattle.tb_top.specs.History.{Change, document_in}
 use Rattle.tb_top.specs.Deeds.{Record, loaded, refused, answered, told, heard, Deed, event_of, events_of, change_by, changes_behind, history_of, IsAnswer, IsResult}
 use Rattle.tb_top.specs.Single.{step_of, world_of, IsRun, IsTranscript}
 use Rattle.tb_top.specs.Transcript.{transcript_of}
-use Rattle.tb_top.proofs.DoneLaws.{run-append, after_all-append, changes_behind-append}
+use Rattle.tb_top.proofs.DoneLaws.{run-append, changes_behind-append}
 use Rattle.tb_top.proofs.QueryLaws.{query-unique}
 
 abbrev event : Numbered → Event

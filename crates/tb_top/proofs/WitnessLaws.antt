@@ -7,12 +7,13 @@ use Rattle.std.proofs.lemmas.List.Concat.{flat_map-append, flat_map_single}
 use Rattle.tb_tree.specs.Plain.{Plain, elem, attr, text, Plains, no_kids, kid, kids_of}
 use Rattle.tb_tree.specs.Printed.{printed_node}
 use Rattle.tb_tree.specs.Numbers.{Numbered, all_numbered}
-use Rattle.tb_top.specs.Pattern as pattern
 use Rattle.tb_tree.specs.Meets.{meets}
 use Rattle.tb_tree.specs.declared.node_test.Test.TheVariants as test
-use Rattle.tb_top.specs.Pattern.{Pattern, matching, Edges, no_edges, edge}
-use Rattle.tb_top.specs.Witness.{Witness, witness, Offers, no_offers, offer, no_witnesses, then_witness, each_alone, naive_witnesses, witnesses_at, choices, numbers_in}
-use Rattle.tb_top.specs.WitnessTree.{witness_tree}
+use Rattle.tb_span.specs.declared.item.Axis.TheVariants.{Descendant}
+use Rattle.tb_pattern.specs.declared.pattern.Mark.TheVariants as mark
+use Rattle.tb_pattern.specs.Plain.{PlainPattern, matching, PlainEdges, no_edges, edge}
+use Rattle.tb_pattern.specs.Witness.{Witness, witness, Offers, no_offers, offer, no_witnesses, then_witness, each_alone, naive_witnesses, witnesses_at, choices, numbers_in}
+use Rattle.tb_pattern.specs.WitnessTree.{witness_tree}
 use Rattle.tb_top.specs.Answer.{Answer, answer_of, below, two_names, lines_of}
 use Rattle.tb_top.proofs.CutLaws.{bytes_eq-is}
 use Rattle.tb_top.specs.Pairs.{numbers_of, named, seconds_under, firsts_in, tree_of_names, witness_text}
@@ -31,7 +32,7 @@ abbrev pairs : List ℕ → List ℕ → ℕ → Plains → List Offers
 pairs first second n nodes = flat_map (λ u. map (λ v. paired u v) (named second (all_numbered (u.number + 1) (kids_of u.node)))) (named first (all_numbered n nodes))
 
 -- an edge marked `-` offers each witness alone
-one_edge : (below : Pattern) (n : ℕ) (kids : Plains) → choices (edge pattern.Descendant pattern.One below no_edges) n kids ≡ map alone (flat_map (witnesses_at below) (all_numbered (n + 1) kids))
+one_edge : (below : PlainPattern) (n : ℕ) (kids : Plains) → choices (edge Descendant mark.One below no_edges) n kids ≡ map alone (flat_map (witnesses_at below) (all_numbered (n + 1) kids))
 one_edge below n kids = alone-each (flat_map (witnesses_at below) (all_numbered (n + 1) kids))
   where
     alone-each : (ws : List Witness) → flat_map (λ w. map (offer w) (no_offers ∷ [])) (each_alone ws) ≡ map alone ws
@@ -39,15 +40,15 @@ one_edge below n kids = alone-each (flat_map (witnesses_at below) (all_numbered 
     alone-each (w ∷ ws) = ap (λ x. alone w ∷ x) (alone-each ws)
 
 -- the witnesses at nodes are those at the nodes of the name
-chosen : (name : List ℕ) (edges : Edges) (u : Numbered) (us : List Numbered) (meets : Bool)
-    → flat_map (witnesses_at (matching (test.Name name) (λ value. true) false edges)) us ≡ flat_map (λ v. map (witness v.number v.node) (choices edges v.number (kids_of v.node))) (named name us)
-    → cond (meets && true) (map (witness u.number u.node) (choices edges u.number (kids_of u.node))) [] ++ flat_map (witnesses_at (matching (test.Name name) (λ value. true) false edges)) us
+chosen : (name : List ℕ) (edges : PlainEdges) (u : Numbered) (us : List Numbered) (meets : Bool)
+    → flat_map (witnesses_at (matching (test.Name name) [] false edges)) us ≡ flat_map (λ v. map (witness v.number v.node) (choices edges v.number (kids_of v.node))) (named name us)
+    → cond (meets && true) (map (witness u.number u.node) (choices edges u.number (kids_of u.node))) [] ++ flat_map (witnesses_at (matching (test.Name name) [] false edges)) us
     ≡ flat_map (λ v. map (witness v.number v.node) (choices edges v.number (kids_of v.node))) (cond meets (u ∷ named name us) (named name us))
 chosen name edges u us true e = ap (λ x. map (witness u.number u.node) (choices edges u.number (kids_of u.node)) ++ x) e
 chosen name edges u us false e = e
 
-at_name : (name : List ℕ) (edges : Edges) (us : List Numbered)
-    → flat_map (witnesses_at (matching (test.Name name) (λ value. true) false edges)) us ≡ flat_map (λ v. map (witness v.number v.node) (choices edges v.number (kids_of v.node))) (named name us)
+at_name : (name : List ℕ) (edges : PlainEdges) (us : List Numbered)
+    → flat_map (witnesses_at (matching (test.Name name) [] false edges)) us ≡ flat_map (λ v. map (witness v.number v.node) (choices edges v.number (kids_of v.node))) (named name us)
 at_name name edges [] = refl
 at_name name edges (u ∷ us) = chosen name edges u us (meets (test.Name name) u.node) (at_name name edges us)
 
@@ -55,7 +56,7 @@ at_name name edges (u ∷ us) = chosen name edges u us (meets (test.Name name) u
 seconds : (second : List ℕ) (n : ℕ) (kids : Plains)
     → choices (below second no_edges) n kids ≡ map alone (map (λ v. witness v.number v.node no_offers) (named second (all_numbered (n + 1) kids)))
 seconds second n kids =
-    one_edge (matching (test.Name second) (λ value. true) false no_edges) n kids
+    one_edge (matching (test.Name second) [] false no_edges) n kids
     ∙ ap (map alone) (at_name second no_edges (all_numbered (n + 1) kids) ∙ flat_map_single (λ v. witness v.number v.node no_offers) (named second (all_numbered (n + 1) kids)))
 
 pairs_of : (u : Numbered) (vs : List Numbered) → map alone (map (witness u.number u.node) (map alone (map (λ v. witness v.number v.node no_offers) vs))) ≡ map (λ v. paired u v) vs
@@ -74,7 +75,7 @@ collected second (u ∷ us) =
 
 pub pairs-naive : (first second : List ℕ) (root : Plain) → naive_witnesses (two_names first second) root ≡ pairs first second 1 (kid root no_kids)
 pairs-naive first second root =
-    one_edge (matching (test.Name first) (λ value. true) false (below second no_edges)) 0 (kid root no_kids)
+    one_edge (matching (test.Name first) [] false (below second no_edges)) 0 (kid root no_kids)
     ∙ ap (map alone) (at_name first (below second no_edges) (all_numbered 1 (kid root no_kids)))
     ∙ collected second (named first (all_numbered 1 (kid root no_kids)))
 

@@ -1,8 +1,5 @@
--- Patterns and their witnesses, queries, the history, what commands come to, the transcript, what
--- `single` and `check` print; then words of private clauses; and last what the commands promise.
-pub mod Pattern
-pub mod Witness
-pub mod WitnessTree
+-- Answers, queries, the history, what commands come to, the transcript, what `single` and `check`
+-- print; then words of private clauses; and last what the commands promise.
 pub mod Answer
 pub mod Names
 pub mod QueryText

@@ -2,7 +2,8 @@
 //!
 //! Main calls `settle`, which does `single` and `check` for scripts whose queries are of two names.
 //! Its one clause, `Settled`, says by the status what was read and what was written, and rests on
-//! the definitions of naive witnesses, histories, runs and transcripts in `specs/`.
+//! the definitions of naive witnesses in the `specs/` of `tb_pattern`, and of histories, runs and
+//! transcripts in its own.
 #![tactic(auto)]
 
 mod answering;

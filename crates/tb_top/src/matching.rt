@@ -8,8 +8,8 @@ ghost use Rattle.tb_span.specs.declared.item.Axis.TheVariants.{Descendant};
 ghost use Rattle.tb_label.specs.Rows.{listed};
 ghost use Rattle.tb_stackjoin.specs.Pairs.{pairs_by_descendant, AreByAncestor};
 ghost use Rattle.tb_stackjoin.specs.Turns.{most_steps};
+ghost use Rattle.tb_pattern.specs.Witness.{naive_witnesses, numbers_in};
 ghost use Rattle.tb_top.specs.Answer.{two_names};
-ghost use Rattle.tb_top.specs.Witness.{naive_witnesses, numbers_in};
 ghost use Rattle.tb_top.specs.Pairs.{numbers_of};
 ghost use Rattle.tb_top.specs.Joined.{item_at, match_at, ArePlaces};
 

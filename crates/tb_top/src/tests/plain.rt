@@ -5,8 +5,8 @@ ghost use Rattle.std.specs.Str.{bytes_eq};
 ghost use Rattle.tb_tree.specs.Plain.{kid, no_kids};
 ghost use Rattle.tb_tree.specs.View.{plain_of, plains_of};
 ghost use Rattle.tb_tree.specs.Numbers.{count, counts};
+ghost use Rattle.tb_pattern.specs.Witness.{naive_witnesses, numbers_in};
 ghost use Rattle.tb_top.specs.Answer.{two_names};
-ghost use Rattle.tb_top.specs.Witness.{naive_witnesses, numbers_in};
 ghost use Rattle.tb_top.specs.Pairs.{numbers_of, seconds_under, firsts_in};
 
 use crate::matching::Match;
