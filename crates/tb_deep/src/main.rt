@@ -1,7 +1,8 @@
 //! `tb_deep`: reads the deepest queries on a thread with the smallest stack, of 128 KiB.
 //!
-//! The gate runs it as a compiled program. A query has up to 65,536 bytes, and all of its syntax is read
-//! before deep nesting is told, so a reader that called itself once a bracket would run out of this stack.
+//! The gate runs it as a compiled program. A query has up to 65,536 bytes, and all of its syntax is
+//! read before deep nesting is told, so a reader that called itself once a bracket would run out of
+//! this stack.
 #![tactic(auto)]
 
 use std::alloc::{AllocError, Global};
@@ -14,11 +15,14 @@ use tb_token::{LexFault, tokens};
 /// Bytes of a query at most.
 const MOST_TEXT: usize = 65_536;
 
-/// Brackets that are open in the deepest query without end, in the deepest with its end, and in two round
-/// the limit.
-const OPEN: usize = 16_378;
+/// Brackets that fit where none is closed.
+const MOST_OPEN: usize = 16_379;
 
-const CLOSED: usize = 13_102;
+/// Brackets that fit where all are closed.
+const MOST_CLOSED: usize = 13_103;
+
+/// Levels of a pattern at most.
+const LEVELS: usize = 32;
 
 /// What reading a query gave.
 #[derive(Debug, Drop)]
@@ -31,7 +35,12 @@ enum Told {
 }
 
 fn main(rt: HostRuntime) -> io::Result<()> {
-    for (open, closed) in [(OPEN, 0), (CLOSED, CLOSED), (33, 33), (32, 32)] {
+    for (open, closed) in [
+        (MOST_OPEN, 0),
+        (MOST_CLOSED, MOST_CLOSED),
+        (LEVELS + 1, LEVELS + 1),
+        (LEVELS, LEVELS),
+    ] {
         let text = nested(rt.alloc(), open, closed)?;
         let told = on_small_stack(&rt, rt.alloc(), &text)?;
         println!(rt;

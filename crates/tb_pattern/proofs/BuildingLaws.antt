@@ -7,7 +7,8 @@ use Rattle.tb_grammar.specs.Reading.{is_filled, own_starts, after, read}
 use Rattle.tb_grammar.proofs.PlaceLaws.{read-both, read-first, read-second, read-put_in, read-left_out, read-one, read-rule}
 use Rattle.tb_grammar.proofs.LetterLaws.{none-true}
 use Rattle.tb_token.specs.Queries.{rules}
-use Rattle.tb_pattern.specs.Faults.{is_sign, is_past, past_behind}
+use Rattle.tb_pattern.specs.Faults.{is_past, past_behind}
+use Rattle.tb_pattern.specs.Letters.{is_sign}
 use Rattle.tb_pattern.specs.Building.{next, begins, Come, IsBuilt, Builds}
 
 -- the reading of a list that ends too early, or of a token that is wrong, is no whole one

@@ -8,7 +8,7 @@ use Rattle.tb_token.specs.Terminals.{sign, comma}
 use Rattle.tb_token.specs.Patterns.{axis, mark, test, conds, edges, edge, edges_rest}
 use Rattle.tb_token.specs.declared.token.Kind.TheVariants.{Sign}
 use Rattle.tb_tree.specs.declared.node_test.Test.{Test}
-use Rattle.tb_pattern.specs.Reading.{signs_of, axis_letters, mark_letters}
+use Rattle.tb_pattern.specs.Letters.{signs_of, axis_letters, mark_letters}
 use Rattle.tb_pattern.specs.Plain.{PlainEdges, no_edges}
 use Rattle.tb_pattern.specs.Value.{is_there, axis_of, mark_of, edges_from, more_edges_in, edges_behind, edges_in}
 use Rattle.tb_pattern.specs.View.{edge_of, edges_of}

@@ -8,7 +8,7 @@ use Rattle.tb_grammar.proofs.PlaceLaws.{read-both, read-one_more, read-no_more, 
 use Rattle.tb_grammar.proofs.LetterLaws.{none-true}
 use Rattle.tb_token.specs.Queries.{rules}
 use Rattle.tb_token.specs.Terminals.{list_of}
-use Rattle.tb_pattern.specs.Faults.{is_sign}
+use Rattle.tb_pattern.specs.Letters.{is_sign}
 use Rattle.tb_pattern.specs.Building.{begins, Come, IsBuilt, Builds}
 use Rattle.tb_pattern.proofs.BuildingLaws.{come-next}
 

@@ -9,7 +9,7 @@ use Rattle.tb_token.specs.Patterns.{test}
 use Rattle.tb_token.specs.declared.token.Kind.TheVariants.{TextTest}
 use Rattle.tb_tree.specs.declared.node_test.Test.{Test}
 use Rattle.tb_tree.specs.declared.node_test.Test.TheVariants.{Name, AnyElement, AttrName, AnyAttr, AnyText}
-use Rattle.tb_pattern.specs.Reading.{name_letters, signs_of}
+use Rattle.tb_pattern.specs.Letters.{name_letters, signs_of}
 use Rattle.tb_pattern.specs.Value.{bytes_in, test_of}
 use Rattle.tb_pattern.specs.Building.{next, begins, Builds}
 use Rattle.tb_pattern.specs.BuiltParts.{attribute, IsAttribute, IsTest}

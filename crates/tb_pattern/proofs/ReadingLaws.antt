@@ -8,7 +8,8 @@ use Rattle.tb_token.specs.Letters.{letter_of}
 use Rattle.tb_token.specs.Terminals.{sign, name, number, text_test}
 use Rattle.tb_token.specs.Queries.{rules}
 use Rattle.tb_token.specs.declared.token.Kind.TheVariants.{Number, TextTest}
-use Rattle.tb_pattern.specs.Reading.{signs_of, at, on, step_at, edges_at, ends_at, outer, test_behind, cond_behind, parts_at, parts_of}
+use Rattle.tb_pattern.specs.Reading.{at, on, step_at, edges_at, ends_at, outer, test_behind, cond_behind, parts_at, parts_of}
+use Rattle.tb_pattern.specs.Letters.{signs_of}
 use Rattle.tb_pattern.specs.declared.reading.Reading.{Reading}
 use Rattle.tb_pattern.specs.declared.reading.Place.{Place}
 use Rattle.tb_pattern.specs.declared.reading.Place.TheVariants as p

@@ -11,7 +11,7 @@ use Rattle.tb_token.specs.declared.token.Kind.TheVariants.{Sign}
 use Rattle.tb_token.specs.Terminals.{comma}
 use Rattle.tb_token.specs.Patterns.{axis, edges, edge, match_query}
 use Rattle.tb_token.specs.Queries.{rules}
-use Rattle.tb_pattern.specs.Reading.{axis_letters}
+use Rattle.tb_pattern.specs.Letters.{axis_letters}
 use Rattle.tb_pattern.specs.Faults.{tests_in, letters_of, tests_of}
 use Rattle.tb_pattern.specs.Plain.{PlainEdges, nodes_in}
 use Rattle.tb_pattern.specs.Value.{edges_in, more_edges_in, edges_from, pattern_of, AskFor}

@@ -1,4 +1,4 @@
--- Tokens ask for one pattern at most; and the trees of two queries worked out by hand.
+-- Tokens ask for one pattern at most; and the tree of a query's edges worked out by hand.
 use Rattle.std.proofs.Common.{◌≡◌, ℕ, true, false, List, [], ◌∷◌, refl, sym, ap, ◌∙◌, pos, negsuc}
 use Rattle.std.specs.Prelude.{codes}
 use Rattle.tb_grammar.specs.Grammar.{Tok}

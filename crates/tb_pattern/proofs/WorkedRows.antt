@@ -4,10 +4,11 @@ use Rattle.std.specs.Prelude.{pos}
 use Rattle.std.specs.List.{flat_map}
 use Rattle.tb_tree.specs.Plain.{Plain, elem, attr, text, no_kids, kid}
 use Rattle.tb_tree.specs.Printed.{printed_node}
+use Rattle.tb_tree.specs.declared.node_test.Test.{Test}
 use Rattle.tb_tree.specs.declared.node_test.Test.TheVariants.{Name, AttrName, AnyAttr, AnyText}
 use Rattle.tb_number.specs.Reading.{integer_of}
 use Rattle.tb_number.specs.declared.op.CmpOp.{CmpOp}
-use Rattle.tb_number.specs.declared.op.CmpOp.TheVariants.{Eq, Lt, Ge}
+use Rattle.tb_number.specs.declared.op.CmpOp.TheVariants.{Eq, Ne, Lt, Ge}
 use Rattle.tb_span.specs.declared.item.Axis.{Axis}
 use Rattle.tb_span.specs.declared.item.Axis.TheVariants.{Child, Descendant}
 use Rattle.tb_pattern.specs.declared.cond.Cond.{Cond}
@@ -15,8 +16,8 @@ use Rattle.tb_pattern.specs.declared.cond.Literal.{Literal}
 use Rattle.tb_pattern.specs.declared.cond.Literal.TheVariants.{Number, Text}
 use Rattle.tb_pattern.specs.declared.pattern.Mark.{Mark}
 use Rattle.tb_pattern.specs.declared.pattern.Mark.TheVariants.{One, Optional, Some, Any}
-use Rattle.tb_pattern.specs.Conditions.{stands}
-use Rattle.tb_pattern.specs.Plain.{PlainPattern, matching, PlainEdges, no_edges, edge}
+use Rattle.tb_pattern.specs.Conditions.{stands, all_hold}
+use Rattle.tb_pattern.specs.Plain.{PlainPattern, matching, PlainEdges, PlainEdge, no_edges, edge, numbered_edges}
 use Rattle.tb_pattern.specs.Witness.{naive_witnesses, numbers_in}
 use Rattle.tb_pattern.specs.WitnessTree.{witness_tree}
 
@@ -157,3 +158,27 @@ whole_p =
 
 pub written-lines : lines whole_p written ≡ codes "(witness\n(r\nAid CDATA 7\n(p\n-one\n)p\n-two\n)r\n)witness\n"
 written-lines = refl
+
+-- the edges of `(/- a (/- b, //- c), /- d)` by number, each before those below it
+abbrev numbered : PlainEdges
+numbered =
+    edge Child One (named (codes "a") (edge Child One (named (codes "b") no_edges) (only Descendant One (named (codes "c") no_edges))))
+    (only Child One (named (codes "d") no_edges))
+
+abbrev tested : PlainPattern → Test
+tested (matching test conds whole below) = test
+
+abbrev test_at : PlainEdge → Test
+test_at e = tested e.to
+
+pub edges-numbered : map test_at (numbered_edges numbered) ≡ Name (codes "a") ∷ Name (codes "b") ∷ Name (codes "c") ∷ Name (codes "d") ∷ []
+edges-numbered = refl
+
+-- a value that is no integer text stands to no number, `!=` too; and all conditions must hold
+pub word-unequal : stands Ne (codes "x") (Number (pos 7)) ≡ false
+unfolding integer_of
+word-unequal = refl
+
+pub conds-all : map (all_hold (cond Ge (Number (pos 3)) ∷ cond Lt (Number (pos 5)) ∷ [])) (codes "2" ∷ codes "4" ∷ codes "5" ∷ []) ≡ false ∷ true ∷ false ∷ []
+unfolding integer_of
+conds-all = refl

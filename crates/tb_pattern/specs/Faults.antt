@@ -1,5 +1,6 @@
 -- The faults of a `MATCH` query, in the order in which they are tried.
-use Rattle.std.specs.Prelude.{◌≡◌, ℕ, ◌+◌, ◌-◌, ◌<◌, ◌≤◌, Bool, true, false, ◌&&◌, ◌||◌, ◌==◌, nat_lt, if◌then◌else◌, List, [], ◌∷◌, map, codes, ℤ, Option, Some, None, ⊤}
+use Rattle.std.specs.Prelude.{◌≡◌, ℕ, ◌+◌, ◌-◌, ◌<◌, ◌≤◌, Bool, true, false, ◌&&◌, ◌||◌, ◌==◌, nat_lt}
+use Rattle.std.specs.Prelude.{if◌then◌else◌, List, [], ◌∷◌, map, codes, ℤ, Option, Some, None, ⊤}
 use Rattle.std.specs.Option.{option_and_then}
 use Rattle.tb_grammar.specs.Grammar.{Tok, has}
 use Rattle.tb_grammar.specs.Words.{IsWrongAt}
@@ -8,14 +9,11 @@ use Rattle.tb_number.specs.Reading.{integer_of}
 use Rattle.tb_token.specs.Letters.{letter_of}
 use Rattle.tb_token.specs.Patterns.{match_query}
 use Rattle.tb_token.specs.Queries.{rules}
-use Rattle.tb_token.specs.declared.token.Kind.TheVariants.{Number, Sign}
-use Rattle.tb_pattern.specs.Reading.{axis_letters}
+use Rattle.tb_token.specs.declared.token.Kind.TheVariants.{Number}
+use Rattle.tb_pattern.specs.Letters.{is_sign, axis_letters}
 use Rattle.tb_pattern.specs.Syntax.{AreMatch}
 use Rattle.tb_pattern.specs.declared.fault.PatternFault.{PatternFault}
 use Rattle.tb_pattern.specs.declared.fault.PatternFault.TheVariants.{Syntax, TooNested, TooManyNodes, LiteralPast, NoMemory}
-
-abbrev pub is_sign : List ℕ → ℕ → Bool
-is_sign text x = x == letter_of Sign text
 
 -- how many brackets are open behind the letter, where so many are before it
 abbrev pub open_behind : ℕ → ℕ → ℕ
@@ -43,6 +41,7 @@ with_sign minus digits = if minus then 45 ∷ digits else digits
 abbrev pub literal_in : Bool → List ℕ → Option ℤ
 literal_in minus digits = option_and_then within_range (integer_of (with_sign minus digits))
 
+-- there is none
 abbrev pub is_none : Option ℤ → Bool
 is_none None = true
 is_none (Some n) = false
@@ -58,6 +57,8 @@ past_behind minus [] = None
 past_behind minus (t ∷ s) =
     if is_past minus t.letter t.bytes then Some t.number
     else past_behind (is_sign (codes "-") t.letter) s
+
+-- The same of tokens, by their letters.
 
 abbrev pub letters_of : List Tok → List ℕ
 letters_of s = map (λ t. t.letter) s

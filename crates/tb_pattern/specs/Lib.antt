@@ -5,6 +5,7 @@ pub mod Plain
 pub mod View
 pub mod Witness
 pub mod WitnessTree
+pub mod Letters
 pub mod Syntax
 pub mod Reading
 pub mod Faults

@@ -1,6 +1,6 @@
 -- Annotated patterns as plain data, after TAX (Jagadish and others, VLDB Journal 2002) and tree
 -- logical classes (Paparizos and others, SIGMOD 2004).
-use Rattle.std.specs.Prelude.{ℕ, ◌+◌, max, Bool, List, [], ◌∷◌}
+use Rattle.std.specs.Prelude.{ℕ, ◌+◌, max, Bool, List, [], ◌∷◌, ◌++◌}
 use Rattle.tb_span.specs.declared.item.Axis.{Axis}
 use Rattle.tb_tree.specs.declared.node_test.Test.{Test}
 use Rattle.tb_pattern.specs.declared.cond.Cond.{Cond}
@@ -26,6 +26,13 @@ pub record PlainEdge : Type 0 where
 abbrev pub edges : List PlainEdge → PlainEdges
 edges [] = no_edges
 edges (e ∷ es) = edge e.axis e.mark e.to (edges es)
+
+-- The edges in written order, each before those below it: edge number n, from 0, is the n-th.
+abbrev pub numbered_edges : PlainEdges → List PlainEdge
+numbered_edges no_edges = []
+numbered_edges (edge axis mark (matching test conds whole below) others) =
+    record { axis = axis; mark = mark; to = matching test conds whole below }
+    ∷ numbered_edges below ++ numbered_edges others
 
 -- how many nodes the edges lead to, one after the other
 abbrev pub nodes_in : PlainEdges → ℕ

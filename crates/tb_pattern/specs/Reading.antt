@@ -1,32 +1,23 @@
 -- How the program reads a `MATCH` query, token by token: what may come next in place of the parts
 -- that are still to come, which are the same at each depth.
-use Rattle.std.specs.Prelude.{ℕ, zero, suc, ◌+◌, Bool, false, ◌==◌, if◌then◌else◌, List, [], ◌∷◌, map, codes, Option, Some, None}
+use Rattle.std.specs.Prelude.{ℕ, zero, suc, ◌+◌, Bool, false, ◌==◌, if◌then◌else◌}
+use Rattle.std.specs.Prelude.{List, [], ◌∷◌, codes, Option, Some, None}
 use Rattle.tb_grammar.specs.Grammar.{Part, both, either, maybe, many, has, row}
 use Rattle.tb_token.specs.Letters.{letter_of}
-use Rattle.tb_token.specs.Names.{words}
 use Rattle.tb_token.specs.Terminals.{word, sign, name, number, string, list_of, comma}
 use Rattle.tb_token.specs.Patterns.{doc, mark, test, cmp, literal, conds, edges, edge, edges_rest, match_query}
-use Rattle.tb_token.specs.declared.token.Kind.TheVariants.{Name, Number, Quoted, TextTest, Word, Sign}
+use Rattle.tb_token.specs.declared.token.Kind.TheVariants.{Number, Quoted, TextTest, Word}
+use Rattle.tb_pattern.specs.Letters.{signs_of, name_letters, axis_letters}
+use Rattle.tb_pattern.specs.Letters.{mark_letters, cmp_letters}
 use Rattle.tb_pattern.specs.declared.reading.Reading.{Reading}
 use Rattle.tb_pattern.specs.declared.reading.Place.{Place}
 use Rattle.tb_pattern.specs.declared.reading.Place.TheVariants as p
 
--- the letters of signs, and of names
-abbrev pub signs_of : List (List ℕ) → List ℕ
-signs_of texts = map (letter_of Sign) texts
-
-abbrev pub name_letters : List ℕ
-name_letters = letter_of Name [] ∷ map (letter_of Word) words
-
-abbrev pub axis_letters : List ℕ
-axis_letters = signs_of (codes "/" ∷ codes "//" ∷ [])
-
-abbrev pub mark_letters : List ℕ
-mark_letters = signs_of (codes "-" ∷ codes "?" ∷ codes "+" ∷ codes "*" ∷ [])
-
+-- before the first token
 abbrev pub start : Reading
 start = record { place = p.Query; depth = 0 }
 
+-- another place, with the same brackets open; and the same place with one more
 abbrev pub at : Reading → Place → Reading
 at r place = record { place = place; depth = r.depth }
 
@@ -71,10 +62,6 @@ behind_conds r x =
 abbrev pub behind_test : Reading → ℕ → Option Reading
 behind_test r x =
     if has (signs_of (codes "[" ∷ [])) x then Some (at r p.FirstCond) else behind_conds r x
-
-abbrev pub cmp_letters : List ℕ
-cmp_letters =
-    signs_of (codes "=" ∷ codes "!=" ∷ codes "<" ∷ codes "<=" ∷ codes ">" ∷ codes ">=" ∷ [])
 
 abbrev pub behind_and : Reading → ℕ → Option Reading
 behind_and r x = on r cmp_letters x p.Literal

@@ -12,6 +12,7 @@ edge_step e = record { axis = e.axis; mark = e.mark; to = e.to }
 abbrev pub node_step : PNode-F PlainEdge PlainPattern → PlainPattern
 node_step p = matching p.test p.conds p.whole (edges p.edges)
 
+-- the plain edge, node, and edges that those of the program are
 abbrev pub edge_of : Edge → PlainEdge
 edge_of = fold-Edge PlainEdge PlainPattern edge_step node_step
 

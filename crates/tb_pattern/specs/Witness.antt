@@ -27,6 +27,7 @@ mutual
     no_witnesses : Witnesses
     then_witness : Witness → Witnesses → Witnesses
 
+-- all of these together
 abbrev pub together : List Witness → Witnesses
 together [] = no_witnesses
 together (w ∷ ws) = then_witness w (together ws)

@@ -6,7 +6,7 @@ use std::alloc::{AllocError, Global};
 use tb_number::CmpOp;
 use tb_tree::Bytes;
 
-/// What a value is compared with: as a number, or by bytes.
+/// What a value is compared with: as a number, or by bytes, which are those between the quotes.
 #[derive(Debug, Drop)]
 pub enum Literal {
     Number(i128),

@@ -8,8 +8,8 @@ use std::alloc::{AllocError, AllocFailed};
 /// The first of the faults that holds, in this order. Tokens are numbered from 1.
 #[derive(Clone, Copy, Debug, PartialEq, Eq)]
 pub enum PatternFault {
-    /// The first token that begins no query with those before it; one more than there are where
-    /// the tokens begin a query and are none.
+    /// The first token that begins no `MATCH` query with those before it; one more than there are
+    /// where the tokens begin one and are none.
     Syntax(u32),
     /// More than 32 pattern nodes inside each other.
     TooNested,

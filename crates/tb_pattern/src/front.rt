@@ -2,7 +2,7 @@
 
 ghost use Rattle.std.specs.Prelude.{◌≡◌, IfOk, drop};
 ghost use Rattle.tb_pattern.specs.Building as built;
-ghost use Rattle.tb_pattern.specs.Reading.{name_letters};
+ghost use Rattle.tb_pattern.specs.Letters.{name_letters};
 ghost use Rattle.tb_pattern.specs.Value as value;
 
 use crate::Mark;

@@ -1,8 +1,9 @@
-//! The letters that patterns are read by.
+//! The letters that patterns are read by: those of `tb_token`, which `Lexeme` tells. The contracts of
+//! the readers hold each against the definition.
 
 ghost use Rattle.std.specs.Prelude.{◌≡◌};
 ghost use Rattle.tb_grammar.specs.Grammar.{has};
-ghost use Rattle.tb_pattern.specs.Reading.{name_letters};
+ghost use Rattle.tb_pattern.specs.Letters.{name_letters};
 
 pub const NAME: u8 = 0;
 

@@ -25,6 +25,7 @@ pub enum Mark {
 #[derive(Debug, Drop)]
 pub struct PNode {
     pub test: Test,
+    /// In written order. All must hold.
     pub conds: Items<Cond>,
     /// Marked `!`: the node brings its own attributes and kids.
     pub whole: bool,
@@ -40,7 +41,8 @@ pub struct Edge {
     pub to: PNode,
 }
 
-/// What a `MATCH` query asks of the document of this name: edges from its document node.
+/// What a `MATCH` query asks of the document of this name: edges from its document node. Edges are
+/// numbered from 0 in written order, each before those below it.
 #[derive(Debug, Drop)]
 pub struct Pattern {
     pub document: Bytes,

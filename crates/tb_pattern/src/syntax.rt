@@ -6,8 +6,8 @@ ghost use Rattle.tb_pattern.specs.Syntax.{FirstWrong};
 use crate::reading::Reading;
 use tb_token::Lexeme;
 
-/// The number, from 1, of the first token that begins no query with those before it, or one more
-/// than there are. `None` for a query. Brackets inside each other cost no calls.
+/// The number, from 1, of the first token that begins no `MATCH` query with those before it, or one
+/// more than there are. `None` for a query. Brackets inside each other cost no calls.
 pub fn first_wrong(tokens: &[Lexeme]) -> Option<u32>
     requires { length tokens.now ≤ 65536 }
     ensures { FirstWrong tokens.now result }

@@ -109,11 +109,23 @@ fn the_first_fault_is_told(rt: HostRuntime) -> Result<(), Fail> {
 #[test]
 fn wide_and_deep_queries_are_refused(rt: HostRuntime) -> Result<(), Fail> {
     let front = b"MATCH document('d') (/-a";
-    let rows: [(&[u8], usize, &[u8], Option<PatternFault>); 4] = [
+    let rows: [(&[u8], usize, &[u8], Option<PatternFault>); 6] = [
         (b",/-a", 63, b")", None),
         (b",/-a", 64, b")", Some(TooManyNodes)),
         (b"(/-a", 16_000, b"", Some(Syntax(64_010))),
         (b",(", 1, b"", Some(Syntax(11))),
+        (
+            b",/-a[=170141183460469231731687303715884105728]",
+            64,
+            b")",
+            Some(TooManyNodes),
+        ),
+        (
+            b",/-a[=170141183460469231731687303715884105728]",
+            63,
+            b")",
+            Some(LiteralPast(16)),
+        ),
     ];
     for (middle, times, back, wanted) in rows {
         let text = repeated(rt.alloc(), front, middle, times, back).map_err(|_fault| "memory")?;

@@ -9,12 +9,13 @@ use Rattle.tb_token.specs.declared.token.Kind.{Kind}
 use Rattle.tb_token.specs.declared.token.Kind.TheVariants.{Name, Word, Variable, Number, Quoted, TextTest, Sign}
 use Rattle.tb_token.specs.declared.token.Token.{Token}
 
--- how far the text stands in the list
+-- how far the text stands in the list, from 0; the list's length where it stands nowhere
 abbrev pub place_in : List ℕ → List (List ℕ) → ℕ
 place_in bytes [] = 0
 place_in bytes (t ∷ ts) = if bytes_eq bytes t then 0 else 1 + place_in bytes ts
 
--- The letter of a token. Each word has its own, whatever its case, and so has each sign.
+-- The letter of a token: one for each kind but words and signs, of which each has its own, whatever
+-- the case of a word.
 abbrev pub letter_of : Kind → List ℕ → ℕ
 letter_of Name bytes = 0
 letter_of Variable bytes = 1

@@ -68,7 +68,7 @@ fn place_among_words(bytes: &[u8]) -> u8
     )
 }
 
-/// How far the bytes stand in the list.
+/// How far the bytes stand in the list, from 0, or its length where they stand nowhere.
 fn place_in(bytes: &[u8], texts: &[&[u8]]) -> u8
     requires { length texts.now ≤ 64 }
     ensures place { result ≡ place_in bytes.now (map (λ text. text.now) texts.now) }

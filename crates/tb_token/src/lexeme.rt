@@ -9,8 +9,10 @@ use crate::token::Token;
 use std::alloc::{AllocError, Global};
 use std::marker::Model;
 
-/// A token with its letter, which is all that the grammar sees of it, its bytes, and its number
-/// in the text, from 1.
+/// A token with its letter, which is all that the grammar sees of it, its bytes, and its number in
+/// the text, from 1. The letter of a name is 0, of a variable 1, of a number 2, of a string 3, of
+/// `text()` 4; signs have 8 and on, and words 64 and on, each in the order in which docs/FORMATS.md
+/// lists them.
 #[derive(Debug, Drop)]
 pub struct Lexeme<'a> {
     pub letter: u8,
@@ -48,7 +50,7 @@ impl<'a> Lexeme<'a> {
     }
 }
 
-/// The tokens of the text with their letters.
+/// The tokens of the text with their letters. They are such as `tokens` gives.
 pub fn lexemes<'a>(
     alloc: Global,
     text: &'a [u8],

@@ -2,7 +2,8 @@
 //!
 //! Readers of queries call it. What is proved is that `tokens` cuts a text into its longest tokens,
 //! or finds the first place at which none begins (`cut`), and that there is one such cut (`once`);
-//! and of the grammar that one token of look-ahead decides it (`readable`).
+//! that `lexemes` gives the tokens as the grammar sees them; and of the grammar that one token of
+//! look-ahead decides it (`readable`).
 #![tactic(auto)]
 
 mod bytes;
