@@ -4,18 +4,22 @@
 //! `specs/`, a list type as its list, and knows of each `Tree` that its root is a sound element.
 #![tactic(auto)]
 
+mod against;
 mod bytes;
 mod items;
 mod line;
 mod node;
 mod node_test;
+mod shape;
 mod tree;
 mod values;
 
+pub use against::Against;
 pub use bytes::Bytes;
 pub use items::Items;
 pub use line::next_line;
 pub use node::{Kids, Node};
 pub use node_test::Test;
+pub use shape::{Shape, ShapeAttr, ShapeContent, ShapeElem, ShapePart};
 pub use tree::Tree;
 pub use values::value;
