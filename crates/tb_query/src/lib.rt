@@ -1,0 +1,18 @@
+//! Queries, and what each of them means over documents.
+//!
+//! Readers of queries make its types, and every crate that plans or answers a query states its
+//! clauses by the definitions of its `specs/`. What is proved is that `documents` gives the names
+//! that a query has (`names`).
+#![tactic(auto)]
+
+mod back;
+mod clause;
+mod operand;
+mod path;
+mod query;
+
+pub use back::{AttrPart, Back, Cons, Content, Part};
+pub use clause::{Clause, GroupBy, Key};
+pub use operand::{Comparison, Operand, Right};
+pub use path::{Path, Start, Step};
+pub use query::{Flwor, Query};
