@@ -1,0 +1,4 @@
+pub mod Shorthand
+pub mod Asked
+pub mod PathRows
+pub mod ComparisonRows
