@@ -1,6 +1,5 @@
 -- The answer of a query by what the program holds of it as plain data.
 use Rattle.std.proofs.Common.{◌≡◌, ℕ, List, ap, ◌∙◌, Option, Some, option_map}
-use Rattle.tb_tree.specs.Plain.{Plain}
 use Rattle.tb_pattern.specs.Plain.{PlainEdges}
 use Rattle.tb_pattern.specs.View.{edges_of}
 use Rattle.tb_pattern.specs.declared.pattern.Pattern.{Pattern}

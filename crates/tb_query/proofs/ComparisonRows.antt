@@ -1,7 +1,7 @@
 -- Which tuples conditions keep, computed.
 use Rattle.std.proofs.Common.{◌≡◌, ℕ, true, false, List, [], ◌∷◌, refl, rules, codes, Option, Some, None}
 use Rattle.std.specs.Prelude.{pos}
-use Rattle.tb_tree.specs.Plain.{Plain, attr}
+use Rattle.tb_tree.specs.Plain.{Plain}
 use Rattle.tb_number.specs.Reading.{integer_of}
 use Rattle.tb_number.specs.declared.op.CmpOp.{CmpOp}
 use Rattle.tb_number.specs.declared.op.CmpOp.TheVariants.{Eq, Ne, Gt}
@@ -16,7 +16,7 @@ use Rattle.tb_query.specs.declared.back.Part.{the_lemmas}
 use Rattle.tb_query.specs.declared.clause.Clause.TheVariants.{For}
 use Rattle.tb_query.specs.declared.operand.Comparison.{Comparison}
 use Rattle.tb_query.specs.declared.query.Flwor.{Flwor}
-use Rattle.tb_query.proofs.Shorthand.{el, leaf, child, below, attribute, texts, in_document, at_var, nodes, agg, compared, compared_to, constructor, braced, query, answered}
+use Rattle.tb_query.proofs.Shorthand.{el, leaf, child, below, texts, in_document, at_var, nodes, agg, compared, compared_to, constructor, braced, query, answered}
 use Rattle.tb_query.proofs.Asked.{answer-back}
 
 -- `1` and `2`, in two documents
@@ -52,7 +52,7 @@ join-equal = answer-back p_and_q (join Eq) both _ (search (rules, the_lemmas)) r
 abbrev kept : List Plain → List Comparison → Option (ℕ × List ℕ)
 kept kids conds = answered ((codes "d", el (codes "r") (el (codes "n") [] ∷ kids)) ∷ [])
     (query (For 0 false (in_document (codes "d") (child (codes "r") ∷ [])) ∷ []) conds None []
-      (Nodes (at_var 0 (child (codes "n") ∷ []))))
+    (Nodes (at_var 0 (child (codes "n") ∷ []))))
 
 abbrev holding : Option (ℕ × List ℕ)
 holding = Some (1, codes "(n\n)n\n")
@@ -125,9 +125,12 @@ operand-unequal_word = refl
 
 -- values with signs, zeros and blanks, and a long one
 abbrev signs : Docs
-signs = (codes "k", el (codes "r")
-    (leaf (codes "v") (codes "007") ∷ leaf (codes "v") (codes "+7") ∷ leaf (codes "v") (codes "7 ")
-    ∷ leaf (codes "v") (codes "100000000000000000000000000000000000000000000000000000000000") ∷ [])) ∷ []
+signs = (
+  codes "k",
+  el (codes "r")
+      (leaf (codes "v") (codes "007") ∷ leaf (codes "v") (codes "+7") ∷ leaf (codes "v") (codes "7 ")
+      ∷ leaf (codes "v") (codes "100000000000000000000000000000000000000000000000000000000000") ∷ []),
+) ∷ []
 
 -- `FOR $v IN document("k")//v WHERE $v op 7 RETURN $v/text()`
 abbrev seven : CmpOp → Flwor

@@ -2,3 +2,6 @@ pub mod Shorthand
 pub mod Asked
 pub mod PathRows
 pub mod ComparisonRows
+pub mod GroupRows
+pub mod ResultRows
+pub mod NameRows

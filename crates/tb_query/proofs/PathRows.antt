@@ -1,8 +1,8 @@
 -- What paths give, computed.
 use Rattle.std.proofs.Common.{◌≡◌, ℕ, false, List, [], ◌∷◌, refl, rules, codes, Option, Some, None}
-use Rattle.tb_tree.specs.Plain.{Plain, elem, attr, text}
-use Rattle.tb_tree.specs.declared.node_test.Test.TheVariants.{Name, AttrName}
-use Rattle.tb_span.specs.declared.item.Axis.TheVariants.{Child, Descendant}
+use Rattle.tb_tree.specs.Plain.{attr}
+use Rattle.tb_tree.specs.declared.node_test.Test.TheVariants.{Name}
+use Rattle.tb_span.specs.declared.item.Axis.TheVariants.{Descendant}
 use Rattle.tb_pattern.specs.Plain.{PlainEdges, no_edges, edge, matching}
 use Rattle.tb_pattern.specs.declared.pattern.Edge.{Edge, roll-Edge, the_lemmas}
 use Rattle.tb_pattern.specs.declared.pattern.PNode.{roll-PNode}
@@ -32,33 +32,33 @@ path-once = refl
 
 -- `FOR $x IN document("d")//x, $y IN $x//y RETURN $y`: results over tuples are not made distinct
 pub tuples-not_distinct : returned
-      (For 0 false (in_document (codes "d") (below (codes "x") ∷ []))
-      ∷ For 1 false (at_var 0 (below (codes "y") ∷ [])) ∷ []) (at_var 1 [])
+    (For 0 false (in_document (codes "d") (below (codes "x") ∷ []))
+    ∷ For 1 false (at_var 0 (below (codes "y") ∷ [])) ∷ []) (at_var 1 [])
     ≡ Some (2, codes "(y\n)y\n(y\n)y\n")
 tuples-not_distinct = refl
 
 -- `LET $x := document("d")//x FOR $y IN $x//y RETURN $y`: the variable stands for its path, so the
 -- node is there once
 pub let-stands_for_path : returned
-      (Let 0 (in_document (codes "d") (below (codes "x") ∷ []))
-      ∷ For 1 false (at_var 0 (below (codes "y") ∷ [])) ∷ []) (at_var 1 [])
+    (Let 0 (in_document (codes "d") (below (codes "x") ∷ []))
+    ∷ For 1 false (at_var 0 (below (codes "y") ∷ [])) ∷ []) (at_var 1 [])
     ≡ Some (1, codes "(y\n)y\n")
 let-stands_for_path = refl
 
 -- `FOR $x IN document("d")/x LET $i := $x/x LET $y := $i/y RETURN $y`: through two of them, and
 -- from a variable of `FOR`
 pub let-through_let : returned
-      (For 0 false (in_document (codes "d") (child (codes "x") ∷ []))
-      ∷ Let 1 (at_var 0 (child (codes "x") ∷ []))
-      ∷ Let 2 (at_var 1 (child (codes "y") ∷ [])) ∷ []) (at_var 2 [])
+    (For 0 false (in_document (codes "d") (child (codes "x") ∷ []))
+    ∷ Let 1 (at_var 0 (child (codes "x") ∷ []))
+    ∷ Let 2 (at_var 1 (child (codes "y") ∷ [])) ∷ []) (at_var 2 [])
     ≡ Some (1, codes "(y\n)y\n")
 let-through_let = refl
 
 -- `FOR $r IN document("d")/r RETURN $r//@id`: attributes are kids, so the node's own is there too
 pub attribute-own : answered
-      ((codes "d", el (codes "r") (attr (codes "id") (codes "1") ∷ el (codes "s") (attr (codes "id") (codes "2") ∷ []) ∷ [])) ∷ [])
-      (query (For 0 false (in_document (codes "d") (child (codes "r") ∷ [])) ∷ []) [] None []
-        (Nodes (at_var 0 (attribute_below (codes "id") ∷ []))))
+    ((codes "d", el (codes "r") (attr (codes "id") (codes "1") ∷ el (codes "s") (attr (codes "id") (codes "2") ∷ []) ∷ [])) ∷ [])
+    (query (For 0 false (in_document (codes "d") (child (codes "r") ∷ [])) ∷ []) [] None []
+    (Nodes (at_var 0 (attribute_below (codes "id") ∷ []))))
     ≡ Some (2, codes "(@id\n-1\n)@id\n(@id\n-2\n)@id\n")
 attribute-own = refl
 

@@ -1,7 +1,7 @@
 -- Short words for the documents and queries of worked rows.
-use Rattle.std.specs.Prelude.{ℕ, false, true, List, [], ◌∷◌, Option, Some, None, codes}
-use Rattle.tb_tree.specs.Plain.{Plain, elem, attr, text, Plains, no_kids, kid, plains}
-use Rattle.tb_tree.specs.declared.node_test.Test.TheVariants.{Name, AttrName, AnyText}
+use Rattle.std.specs.Prelude.{ℕ, List, Option}
+use Rattle.tb_tree.specs.Plain.{Plain, elem, text, no_kids, kid, plains}
+use Rattle.tb_tree.specs.declared.node_test.Test.TheVariants.{Name, AnyElement, AttrName, AnyText}
 use Rattle.tb_span.specs.declared.item.Axis.TheVariants.{Child, Descendant}
 use Rattle.tb_number.specs.declared.op.CmpOp.{CmpOp}
 use Rattle.tb_number.specs.declared.agg.AggKind.{AggKind}
@@ -14,15 +14,13 @@ use Rattle.tb_query.specs.declared.operand.Operand.TheVariants as operands
 use Rattle.tb_query.specs.declared.operand.Comparison.{Comparison}
 use Rattle.tb_query.specs.declared.operand.Right.TheVariants as rights
 use Rattle.tb_query.specs.declared.clause.Clause.{Clause}
-use Rattle.tb_query.specs.declared.clause.Clause.TheVariants.{For, Let}
 use Rattle.tb_query.specs.declared.clause.GroupBy.{GroupBy}
 use Rattle.tb_query.specs.declared.clause.Key.{Key}
 use Rattle.tb_query.specs.declared.back.AttrPart.{AttrPart}
-use Rattle.tb_query.specs.declared.back.Content.{Content}
 use Rattle.tb_query.specs.declared.back.Content.TheVariants as contents
 use Rattle.tb_query.specs.declared.back.Cons.{Cons, roll-Cons}
 use Rattle.tb_query.specs.declared.back.Part.{Part, roll-Part}
-use Rattle.tb_query.specs.declared.back.Part.TheOpen.{Part-F, Cons-F}
+use Rattle.tb_query.specs.declared.back.Part.TheOpen.{Part-F}
 use Rattle.tb_query.specs.declared.back.Back.{Back}
 use Rattle.tb_query.specs.declared.query.Flwor.{Flwor}
 use Rattle.tb_query.specs.Tuples.{Docs}
@@ -36,9 +34,12 @@ el name kids = elem name (plains kids)
 abbrev pub leaf : List ℕ → List ℕ → Plain
 leaf name value = elem name (kid (text value) no_kids)
 
--- `/name`, `//name`, `/@name`, `/text()`
+-- `/name`, `/*`, `//name`, `/@name`, `/text()`
 abbrev pub child : List ℕ → Step
 child name = record { axis = Child; test = Name name }
+
+abbrev pub any_child : Step
+any_child = record { axis = Child; test = AnyElement }
 
 abbrev pub below : List ℕ → Step
 below name = record { axis = Descendant; test = Name name }

@@ -1,6 +1,6 @@
 -- The answer of a query over documents: its trees and their lines, or `None`, which says that a sum
 -- is past the range of signed numbers of 128 bits.
-use Rattle.std.specs.Prelude.{ℕ, List, [], ◌∷◌, ◌++◌, Option, Some, None, option_map, option_and_then, map, flat_map, length}
+use Rattle.std.specs.Prelude.{ℕ, List, [], Option, Some, None, option_map, option_and_then, map, flat_map, length}
 use Rattle.tb_tree.specs.Plain.{Plain}
 use Rattle.tb_tree.specs.Printed.{printed_node}
 use Rattle.tb_pattern.specs.Plain.{PlainEdges}

@@ -1,5 +1,5 @@
 -- Which tuples the conditions of a query keep.
-use Rattle.std.specs.Prelude.{ℕ, Bool, true, false, not, ◌||◌, if◌then◌else◌, List, [], ◌∷◌, ◌++◌, Option, Some, None, option_map, option_and_then, filter}
+use Rattle.std.specs.Prelude.{ℕ, Bool, true, false, not, ◌||◌, if◌then◌else◌, List, [], ◌∷◌, ◌++◌, Option, Some, option_map, option_and_then, filter}
 use Rattle.std.specs.List.{list_any}
 use Rattle.tb_tree.specs.Numbers.{Numbered}
 use Rattle.tb_number.specs.Comparison.{holds}

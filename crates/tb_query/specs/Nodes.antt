@@ -1,5 +1,5 @@
 -- The nodes of a path, by the naive witnesses of its chain pattern.
-use Rattle.std.specs.Prelude.{ℕ, ◌+◌, ◌==◌, Bool, false, List, [], ◌∷◌, ◌++◌, filter}
+use Rattle.std.specs.Prelude.{ℕ, ◌+◌, ◌==◌, false, List, [], ◌∷◌, ◌++◌, filter}
 use Rattle.std.specs.List.{list_any}
 use Rattle.tb_tree.specs.Plain.{Plain, Plains, kids_of, one}
 use Rattle.tb_tree.specs.Numbers.{Numbered, all_numbered}

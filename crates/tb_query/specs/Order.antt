@@ -1,11 +1,11 @@
 -- The order of groups.
-use Rattle.std.specs.Prelude.{ℕ, Bool, if◌then◌else◌, List, [], ◌∷◌, Option, option_map}
+use Rattle.std.specs.Prelude.{ℕ, Bool, if◌then◌else◌, List, ◌∷◌, Option, option_map}
 use Rattle.std.specs.Ordering.{ordering_then, ordering_reverse}
 use Rattle.std.specs.declared.cmp.Ordering.{Ordering}
 use Rattle.std.specs.declared.cmp.Ordering.TheVariants.{Equal}
 use Rattle.tb_tree.specs.Numbers.{Numbered}
 use Rattle.tb_number.specs.Keys.{key_cmp}
-use Rattle.tb_query.specs.Lists.{sorted, all_given}
+use Rattle.tb_query.specs.Lists.{all_given}
 use Rattle.tb_query.specs.Operands.{operand_values, first_of}
 use Rattle.tb_query.specs.declared.path.Path.{Path}
 use Rattle.tb_query.specs.declared.clause.Key.{Key}

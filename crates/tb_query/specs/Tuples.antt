@@ -83,10 +83,12 @@ pub record Bindings : Type 0 where
 abbrev pub bound_by : Docs → Bindings → Clause → Bindings
 bound_by docs b (For var empty path) = record {
   tuples = flat_map (λ t. extended var empty t (nodes_in docs (standing b.lets path) t)) b.tuples;
-  lets = b.lets }
+  lets = b.lets;
+}
 bound_by docs b (Let var path) = record {
   tuples = b.tuples;
-  lets = (var, standing b.lets path) ∷ b.lets }
+  lets = (var, standing b.lets path) ∷ b.lets;
+}
 
 -- the clauses in written order, from one empty tuple
 abbrev pub bindings : Docs → List Clause → Bindings
