@@ -1,5 +1,6 @@
 pub mod Shorthand
 pub mod Asked
+pub mod OnceLaws
 pub mod PathRows
 pub mod ComparisonRows
 pub mod GroupRows

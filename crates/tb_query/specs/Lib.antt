@@ -10,3 +10,4 @@ pub mod Parts
 pub mod Results
 pub mod Answer
 pub mod Names
+pub mod Lent

@@ -2,7 +2,7 @@
 use Rattle.std.specs.Prelude.{ℕ, List, [], ◌∷◌, ◌++◌, Option, Some, None, flat_map}
 use Rattle.std.specs.Str.{bytes_eq}
 use Rattle.tb_query.specs.Lists.{each_once}
-use Rattle.tb_query.specs.Parts.{PlainCons, element, PlainParts, no_parts, inner, content, PlainBack, nodes_back, cons_back, back_of}
+use Rattle.tb_query.specs.Parts.{PlainCons, element, PlainParts, no_parts, inner, content, PlainPart, constructor, given, PlainBack, nodes_back, cons_back, back_of}
 use Rattle.tb_query.specs.declared.path.Path.{Path}
 use Rattle.tb_query.specs.declared.path.Start.{Start}
 use Rattle.tb_query.specs.declared.path.Start.TheVariants.{Document, Var}
@@ -67,6 +67,11 @@ abbrev mutual
   names_of_parts no_parts = []
   names_of_parts (inner c rest) = names_of_cons c ++ names_of_parts rest
   names_of_parts (content c rest) = names_of_content c ++ names_of_parts rest
+
+-- one part, and what stands behind RETURN
+abbrev pub names_of_part : PlainPart → List (List ℕ)
+names_of_part (constructor c) = names_of_cons c
+names_of_part (given c) = names_of_content c
 
 abbrev pub names_of_back : PlainBack → List (List ℕ)
 names_of_back (nodes_back path) = names_of_path path

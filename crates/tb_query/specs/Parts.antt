@@ -3,6 +3,7 @@ use Rattle.std.specs.Prelude.{ℕ, List, [], ◌∷◌}
 use Rattle.tb_query.specs.declared.back.AttrPart.{AttrPart}
 use Rattle.tb_query.specs.declared.back.Content.{Content}
 use Rattle.tb_query.specs.declared.back.Cons as cons
+use Rattle.tb_query.specs.declared.back.Part as part
 use Rattle.tb_query.specs.declared.back.Part.TheOpen.{Cons-F, Part-F}
 use Rattle.tb_query.specs.declared.back.Back.{Back}
 use Rattle.tb_query.specs.declared.back.Back.TheVariants.{Nodes, Cons}
@@ -42,9 +43,12 @@ abbrev pub part_step : Part-F PlainPart PlainCons → PlainPart
 part_step (Part-F.Cons c) = constructor c
 part_step (Part-F.Content c) = given c
 
--- the plain constructor that one of the program is
+-- the plain constructor, and the plain part, that one of the program is
 abbrev pub cons_of : cons.Cons → PlainCons
 cons_of = cons.fold-Cons PlainPart PlainCons part_step cons_step
+
+abbrev pub part_of : part.Part → PlainPart
+part_of = part.fold-Part PlainPart PlainCons part_step cons_step
 
 -- the nodes of a path, or a constructor
 pub data PlainBack : Type 0 where

@@ -7,12 +7,18 @@
 
 mod back;
 mod clause;
+mod names;
 mod operand;
 mod path;
 mod query;
+mod written;
 
 pub use back::{AttrPart, Back, Cons, Content, Part};
 pub use clause::{Clause, GroupBy, Key};
+pub use names::documents;
 pub use operand::{Comparison, Operand, Right};
 pub use path::{Path, Start, Step};
 pub use query::{Flwor, Query};
+
+#[cfg(test)]
+mod tests;
