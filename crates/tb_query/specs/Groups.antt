@@ -13,31 +13,31 @@ use Rattle.tb_query.specs.declared.clause.GroupBy.{GroupBy}
 abbrev pub is_same_key : Option (List ℕ) → Option (List ℕ) → Bool
 is_same_key a b = is_eq (key_cmp a b)
 
--- the key of a tuple: the value of the first node of the path, or no value
-abbrev pub key_of : Docs → Path → Tuple → Option (List ℕ)
-key_of docs path tuple = first_of (values (nodes_in docs path tuple))
+-- the key of a tuple, where each tuple has these nodes: the value of the first one, or no value
+abbrev pub key_of : (Tuple → List Numbered) → Tuple → Option (List ℕ)
+key_of nodes tuple = first_of (values (nodes tuple))
 
 -- the first of some nodes, or none
 abbrev pub first_node : List Numbered → Option Numbered
 first_node [] = None
 first_node (u ∷ us) = Some u
 
--- The variable of a group stands, in each of its tuples, for the first node of the path in the
--- first tuple, or for no node.
-abbrev pub with_variable : Docs → ℕ → Path → List Tuple → List Tuple
-with_variable docs var path [] = []
-with_variable docs var path (t ∷ ts) =
-    map (λ tuple. (var, first_node (nodes_in docs path t)) ∷ tuple) (t ∷ ts)
+-- The variable of a group stands, in each of its tuples, for the first node that the first tuple
+-- has, or for no node.
+abbrev pub with_variable : (Tuple → List Numbered) → ℕ → List Tuple → List Tuple
+with_variable nodes var [] = []
+with_variable nodes var (t ∷ ts) =
+    map (λ tuple. (var, first_node (nodes t)) ∷ tuple) (t ∷ ts)
 
 -- tuples with one key, in groups in the order of their first tuples
-abbrev pub grouped_by : Docs → ℕ → Path → List Tuple → List (List Tuple)
-grouped_by docs var path tuples =
-    map (with_variable docs var path) (grouped (λ s t. is_same_key (key_of docs path s) (key_of docs path t)) tuples)
+abbrev pub grouped_by : (Tuple → List Numbered) → ℕ → List Tuple → List (List Tuple)
+grouped_by nodes var tuples =
+    map (with_variable nodes var) (grouped (λ s t. is_same_key (key_of nodes s) (key_of nodes t)) tuples)
 
--- without GROUP BY each tuple is a group of its own
+-- by the nodes of the path of GROUP BY; without it each tuple is a group of its own
 abbrev pub groups_of : Docs → Lets → Option GroupBy → List Tuple → List (List Tuple)
 groups_of docs lets None tuples = map (λ t. t ∷ []) tuples
-groups_of docs lets (Some by) tuples = grouped_by docs by.var (standing lets by.path) tuples
+groups_of docs lets (Some by) tuples = grouped_by (nodes_in docs (standing lets by.path)) by.var tuples
 
 -- one node of a document
 abbrev pub is_same_node : Numbered → Numbered → Bool

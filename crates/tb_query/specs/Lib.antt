@@ -10,4 +10,5 @@ pub mod Parts
 pub mod Results
 pub mod Answer
 pub mod Names
+pub mod NameLaw
 pub mod Lent

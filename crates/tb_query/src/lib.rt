@@ -2,11 +2,13 @@
 //!
 //! Readers of queries make its types, and every crate that plans or answers a query states its
 //! clauses by the definitions of its `specs/`. What is proved is that `documents` gives the names
-//! that a query has (`names`).
+//! that a query has, each once (`names`), and that its answer depends on the documents of these names
+//! alone (`laws_of_answers`).
 #![tactic(auto)]
 
 mod back;
 mod clause;
+mod laws;
 mod names;
 mod operand;
 mod path;
@@ -15,6 +17,7 @@ mod written;
 
 pub use back::{AttrPart, Back, Cons, Content, Part};
 pub use clause::{Clause, GroupBy, Key};
+pub use laws::laws_of_answers;
 pub use names::documents;
 pub use operand::{Comparison, Operand, Right};
 pub use path::{Path, Start, Step};
