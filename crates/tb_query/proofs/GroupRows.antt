@@ -19,11 +19,11 @@ use Rattle.tb_query.proofs.Shorthand.{el, leaf, child, below, attribute, any_chi
 use Rattle.tb_query.proofs.Asked.{answer-back}
 
 -- three books: of 1994 with one author, of 2000 with three, of 1999 with none
-abbrev book : List ℕ → List ℕ → List Plain → Plain
+abbrev pub book : List ℕ → List ℕ → List Plain → Plain
 book year title authors =
     el (codes "BOOK") (attr (codes "YEAR") year ∷ leaf (codes "TITLE") title ∷ authors)
 
-abbrev bibliography : Docs
+abbrev pub bibliography : Docs
 bibliography = (
   codes "bib",
   el (codes "BIB")

@@ -8,3 +8,4 @@ pub mod ComparisonRows
 pub mod GroupRows
 pub mod ResultRows
 pub mod NameRows
+pub mod OperatorRows
