@@ -186,3 +186,8 @@ sum-waits = refl
 pub sum-then_taken : kept past (positive ∷ stand_to (codes "n") Eq (Text [])) ≡ None
 unfolding integer_of
 sum-then_taken = refl
+
+-- both operands are taken, also where the left one has no value
+pub right-taken : kept past (compared (nodes (at_var 0 (child (codes "z") ∷ []))) Eq (agg Sum (at_var 0 (child (codes "v") ∷ []))) ∷ []) ≡ None
+unfolding integer_of
+right-taken = refl

@@ -26,7 +26,7 @@ use Rattle.tb_query.specs.declared.back.Part.{the_lemmas}
 use Rattle.tb_query.specs.declared.clause.Clause.TheVariants.{For}
 use Rattle.tb_query.specs.declared.query.Flwor.{Flwor}
 use Rattle.tb_query.specs.declared.query.Query.TheVariants.{Match}
-use Rattle.tb_query.proofs.Shorthand.{el, leaf, child, attribute, texts, in_document, at_var, nodes, agg, constructor, string, braced, named_by, query, answered}
+use Rattle.tb_query.proofs.Shorthand.{el, leaf, child, below, attribute, texts, in_document, at_var, nodes, agg, constructor, string, braced, named_by, query, answered}
 use Rattle.tb_query.proofs.Asked.{answer-back, answer-edges}
 
 -- 2^127 - 1, 1 and -1, whose sum is within the range, and the total of the first two isn't
@@ -87,6 +87,23 @@ sum-of_words = answer-back words (taken Sum) (of_kind Sum) _ (search (rules, the
 pub least-of_words : answered words (taken Min) ≡ Some (1, codes "(t\n)t\n")
 unfolding integer_of canonical_text
 least-of_words = answer-back words (taken Min) (of_kind Min) _ (search (rules, the_lemmas)) refl
+
+-- one element whose sum is past the range, behind one whose sum isn't: there is no answer
+abbrev one_past : Docs
+one_past = (
+  codes "s",
+  el (codes "r")
+      (el (codes "i") (leaf (codes "v") (codes "1") ∷ [])
+      ∷ el (codes "i") (leaf (codes "v") (codes "170141183460469231731687303715884105728") ∷ []) ∷ []),
+) ∷ []
+
+abbrev each_sum : Flwor
+each_sum = query (For 0 false (in_document (codes "s") (below (codes "i") ∷ [])) ∷ []) [] None []
+    (Cons (constructor (codes "t") [] (braced (agg Sum (at_var 0 (child (codes "v") ∷ []))) ∷ [])))
+
+pub any_sum-past : answered one_past each_sum ≡ None
+unfolding integer_of canonical_text
+any_sum-past = answer-back one_past each_sum (of_kind Sum) _ (search (rules, the_lemmas)) refl
 
 -- an element with an attribute, and texts on both sides of an element
 abbrev mixed : Docs
