@@ -1,20 +1,20 @@
 -- Operands, conditions, keys and constructors give the same for two ways in which paths have nodes,
 -- where these are alike on the paths whose names are written there.
-use Rattle.std.proofs.Common.{◌≡◌, ℕ, Bool, true, false, not, cond, if◌then◌else◌, map, List, [], ◌∷◌, ◌++◌, Option, Some, None, option_map, option_and_then, refl, ap, ap₂, ◌∙◌}
+use Rattle.std.proofs.Common.{◌≡◌, ℕ, Bool, true, false, not, cond, if◌then◌else◌, map, List, [], ◌∷◌, ◌++◌, Option, Some, option_map, option_and_then, refl, ap, ap₂}
 use Rattle.std.specs.Bool.{⊤}
 use Rattle.std.specs.List.{Contains, flat_map, filter, join_with_byte}
 use Rattle.std.specs.Option.{option_to_list}
 use mathlib.Core.Path.{fun_ext}
 use Rattle.std.proofs.lemmas.List.Elements.{Contains-append_left, Contains-append_right}
-use Rattle.tb_tree.specs.Plain.{Plain, Plains, attr, text, kid, plains, joined_kids}
+use Rattle.tb_tree.specs.Plain.{attr, text, kid, plains, joined_kids}
 use Rattle.tb_tree.specs.Numbers.{Numbered}
 use Rattle.tb_number.specs.declared.op.CmpOp.{CmpOp}
 use Rattle.tb_query.specs.Lists.{all_given}
 use Rattle.tb_query.specs.Operands.{values, aggregate, operand_values, first_of}
 use Rattle.tb_query.specs.Comparisons.{some_stand, right_stands, comparison_holds, all_tested, has_sum, as_tested}
-use Rattle.tb_query.specs.Order.{sort_value, SortValue}
-use Rattle.tb_query.specs.Parts.{PlainCons, element, PlainParts, no_parts, inner, content, PlainBack, nodes_back, cons_back}
-use Rattle.tb_query.specs.Results.{given_trees, attribute_value, attribute_given, operand_given, content_given, element_given, parts_given, group_trees, made}
+use Rattle.tb_query.specs.Order.{sort_value}
+use Rattle.tb_query.specs.Parts.{element, PlainParts, no_parts, inner, content, PlainBack, nodes_back, cons_back}
+use Rattle.tb_query.specs.Results.{given_trees, attribute_value, attribute_given, content_given, element_given, parts_given, group_trees, made}
 use Rattle.tb_query.specs.Names.{names_of_path, names_of_operand, names_of_right, names_of_comparison, names_of_key, names_of_content, names_of_attribute, names_of_parts, names_of_back}
 use Rattle.tb_query.specs.declared.path.Path.{Path}
 use Rattle.tb_query.specs.declared.operand.Operand as operand

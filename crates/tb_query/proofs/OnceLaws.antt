@@ -1,7 +1,9 @@
 -- Names that are added one after the other, unless they are there already, are each once at their
 -- first places.
 use Rattle.std.proofs.Common.{◌≡◌, ℕ, Bool, true, false, not, ◌&&◌, ◌||◌, cond, if◌then◌else◌, List, [], ◌∷◌, ◌++◌, Bor, refl, sym, ap, ◌∙◌, append_assoc, append-nil}
-use Rattle.std.specs.List.{fold, filter, list_any}
+use Rattle.std.specs.List.{fold, filter, list_any, Contains}
+use Rattle.std.proofs.lemmas.Slice.Eq.{bytes_eq-Decides}
+use Rattle.std.proofs.lemmas.Map.Views.{list_any-from_Contains, Contains-from_any}
 use Rattle.std.specs.Str.{bytes_eq}
 use Rattle.std.specs.Ordering.{nat_cmp, is_eq}
 use Rattle.std.specs.Cmp.Lexicographic.{slice_cmp}
@@ -107,3 +109,34 @@ pub noted-once : (keys more : List (Bor (List ℕ))) (out : List (List ℕ)) (ke
 noted-once keys more out key noted updates q =
     updates q ∙ ap (λ b. cond b true (among keys q)) (is_eq-slice_cmp key.now q.now)
     ∙ ap (λ a. cond (bytes_eq key.now q.now) true a) (noted q) ∙ sym (any-once key.now q.now out)
+
+-- A name is among the names exactly where it is among them once.
+
+filtered-step : (q x y : List ℕ) (kept names : List (List ℕ)) → bytes_eq q x ≡ false → (b : Bool) → bytes_eq x y ≡ b
+    → list_any (bytes_eq q) kept ≡ list_any (bytes_eq q) names
+    → list_any (bytes_eq q) (cond (not b) (y ∷ kept) kept) ≡ (bytes_eq q y || list_any (bytes_eq q) names)
+filtered-step q x y kept names differ true same others =
+    let other : bytes_eq q y ≡ false = nat_list_eq_equiv.symm q y ∙ sym (nat_list_eq_equiv.congr x y q same) ∙ nat_list_eq_equiv.symm x q ∙ differ in
+    rw other others
+filtered-step q x y kept names differ false same others = ap (λ b. bytes_eq q y || b) others
+
+filtered-any : (q x : List ℕ) → bytes_eq q x ≡ false → (names : List (List ℕ))
+    → list_any (bytes_eq q) (filter (λ y. not (bytes_eq x y)) names) ≡ list_any (bytes_eq q) names
+filtered-any q x differ [] = refl
+filtered-any q x differ (y ∷ names) =
+    filtered-step q x y (filter (λ z. not (bytes_eq x z)) names) names differ (bytes_eq x y) refl (filtered-any q x differ names)
+
+among-step : (q x : List ℕ) (xs : List (List ℕ)) (b : Bool) → bytes_eq q x ≡ b
+    → list_any (bytes_eq q) (names_once xs) ≡ list_any (bytes_eq q) xs
+    → (b || list_any (bytes_eq q) (filter (λ y. not (bytes_eq x y)) (names_once xs))) ≡ (b || list_any (bytes_eq q) xs)
+among-step q x xs true same others = refl
+among-step q x xs false same others = filtered-any q x same (names_once xs) ∙ others
+
+among-once : (q : List ℕ) (names : List (List ℕ)) → list_any (bytes_eq q) (names_once names) ≡ list_any (bytes_eq q) names
+among-once q [] = refl
+among-once q (x ∷ xs) = among-step q x xs (bytes_eq q x) refl (among-once q xs)
+
+pub contains-once : (names : List (List ℕ)) (name : List ℕ) → Contains names name → Contains (names_once names) name
+contains-once names name has =
+    Contains-from_any (λ x y e. (bytes_eq-Decides x y).0 e) name (names_once names)
+    (among-once name names ∙ list_any-from_Contains nat_list_eq_equiv name names has)

@@ -3,6 +3,7 @@
 ghost use Rattle.std.specs.Prelude.{◌≡◌, IfOk, OnOk};
 ghost use Rattle.tb_query.specs.Lent.{lent, with_once, IsNoted};
 ghost use Rattle.tb_query.specs.Names.{written_names, names_once};
+ghost use Rattle.tb_query.specs.NameLaw.{AreEnough};
 
 use crate::Query;
 use crate::written::names_in;
@@ -14,9 +15,11 @@ use tb_tree::Bytes;
 /// The query's answer depends on the documents of these names alone.
 pub fn documents(alloc: Global, query: &Query) -> Result<Vec<Bytes>, AllocError>
     ensures names { IfOk result (λ names. names.items ≡ names_once (written_names query.now)) }
+    ensures enough { IfOk result (λ names. AreEnough names.items query.now) }
 {
     let names = names_in(alloc, query)?;
-    each_once(alloc, names.as_slice())
+    let once = each_once(alloc, names.as_slice())?;
+    Ok(once)
 }
 
 /// A query may have many names, so those before one are kept in a set.
