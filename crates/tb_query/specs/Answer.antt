@@ -39,7 +39,8 @@ trees_of_groups docs lets back groups =
 abbrev pub bound_trees : Docs → Bindings → flwor.Flwor → PlainBack → Option (List Plain)
 bound_trees docs b q back =
     option_and_then (trees_of_groups docs b.lets back)
-    (option_and_then (λ tuples. ordered_groups docs b.lets q.keys (groups_of docs b.lets q.group tuples))
+    (option_and_then
+    (λ tuples. ordered_groups docs b.lets q.keys (groups_of docs b.lets q.group tuples))
     (kept_tuples docs b q.conds))
 
 abbrev pub flwor_trees : Docs → flwor.Flwor → PlainBack → Option (List Plain)

@@ -28,7 +28,8 @@ some_stand_to op left to = list_any (λ a. stands op a to) left
 
 -- Whether a comparison holds, once its left operand is taken. The right one is taken in any case.
 abbrev pub right_stands : (Path → List Numbered) → CmpOp → List (List ℕ) → Right → Option Bool
-right_stands nodes op left (Operand right) = option_map (some_stand op left) (operand_values nodes right)
+right_stands nodes op left (Operand right) =
+    option_map (some_stand op left) (operand_values nodes right)
 right_stands nodes op left (Literal to) = Some (some_stand_to op left to)
 
 -- whether a comparison holds, where each path has these nodes

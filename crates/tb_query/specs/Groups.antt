@@ -32,12 +32,14 @@ with_variable nodes var (t ∷ ts) =
 -- tuples with one key, in groups in the order of their first tuples
 abbrev pub grouped_by : (Tuple → List Numbered) → ℕ → List Tuple → List (List Tuple)
 grouped_by nodes var tuples =
-    map (with_variable nodes var) (grouped (λ s t. is_same_key (key_of nodes s) (key_of nodes t)) tuples)
+    map (with_variable nodes var)
+    (grouped (λ s t. is_same_key (key_of nodes s) (key_of nodes t)) tuples)
 
 -- by the nodes of the path of GROUP BY; without it each tuple is a group of its own
 abbrev pub groups_of : Docs → Lets → Option GroupBy → List Tuple → List (List Tuple)
 groups_of docs lets None tuples = map (λ t. t ∷ []) tuples
-groups_of docs lets (Some by) tuples = grouped_by (nodes_in docs (standing lets by.path)) by.var tuples
+groups_of docs lets (Some by) tuples =
+    grouped_by (nodes_in docs (standing lets by.path)) by.var tuples
 
 -- one node of a document
 abbrev pub is_same_node : Numbered → Numbered → Bool

@@ -18,4 +18,5 @@ with_once names name = if list_any (bytes_eq name) names then names else names +
 abbrev pub IsNoted : List (Bor (List ℕ)) → List (List ℕ) → Type 0
 IsNoted keys names =
     (name : Bor (List ℕ))
-    → list_any (λ k. is_eq (slice_cmp nat_cmp name.now k.now)) keys ≡ list_any (bytes_eq name.now) names
+    → list_any (λ k. is_eq (slice_cmp nat_cmp name.now k.now)) keys
+    ≡ list_any (bytes_eq name.now) names

@@ -8,7 +8,8 @@ abbrev pub each_once : {A : Type 0} → (A → A → Bool) → List A → List A
 each_once same [] = []
 each_once same (x ∷ xs) = x ∷ filter (λ y. not (same x y)) (each_once same xs)
 
--- the items that are the same in one group each, in their order; groups in the order of their first items
+-- Items that are the same are a group, in their order. Groups stand in the order of their first
+-- items.
 abbrev pub grouped : {A : Type 0} → (A → A → Bool) → List A → List (List A)
 grouped same xs = map (λ x. filter (same x) xs) (each_once same xs)
 
@@ -30,4 +31,5 @@ joined (xs ∷ others) = xs ++ joined others
 -- what the items give one after the other, or none where one gives none
 abbrev pub all_given : {A B : Type 0} → (A → Option B) → List A → Option (List B)
 all_given give [] = Some []
-all_given give (x ∷ xs) = option_and_then (λ y. option_map (λ ys. y ∷ ys) (all_given give xs)) (give x)
+all_given give (x ∷ xs) =
+    option_and_then (λ y. option_map (λ ys. y ∷ ys) (all_given give xs)) (give x)

@@ -18,4 +18,5 @@ AreEnough names q = (docs other : Docs) → Agree names docs other → answer do
 -- same over both
 abbrev pub DependsOnNames : Type 0
 DependsOnNames =
-    (docs other : Docs) (q : Query) → Agree (written_names q) docs other → answer docs q ≡ answer other q
+    (docs other : Docs) (q : Query) → Agree (written_names q) docs other
+    → answer docs q ≡ answer other q

@@ -61,7 +61,8 @@ names_of_attribute a = names_of_content a.from
 abbrev mutual
   -- attributes stand before parts
   pub names_of_cons : PlainCons → List (List ℕ)
-  names_of_cons (element name attrs parts) = flat_map names_of_attribute attrs ++ names_of_parts parts
+  names_of_cons (element name attrs parts) =
+      flat_map names_of_attribute attrs ++ names_of_parts parts
 
   pub names_of_parts : PlainParts → List (List ℕ)
   names_of_parts no_parts = []
@@ -79,7 +80,8 @@ names_of_back (cons_back c) = names_of_cons c
 
 abbrev pub names_of_flwor : flwor.Flwor → List (List ℕ)
 names_of_flwor q =
-    flat_map names_of_clause q.clauses ++ flat_map names_of_comparison q.conds ++ names_of_group q.group
+    flat_map names_of_clause q.clauses ++ flat_map names_of_comparison q.conds
+    ++ names_of_group q.group
     ++ flat_map names_of_key q.keys ++ names_of_back (back_of q.back)
 
 -- the names as they are written, from left to right

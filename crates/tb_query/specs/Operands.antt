@@ -45,4 +45,5 @@ aggregate Max vs = Some (option_map canonical_text (greatest (numbers_of vs)))
 -- The values of an operand, where each path has these nodes.
 abbrev pub operand_values : (Path → List Numbered) → Operand → Option (List (List ℕ))
 operand_values nodes (Nodes path) = Some (values (nodes path))
-operand_values nodes (Agg kind path) = option_map option_to_list (aggregate kind (values (nodes path)))
+operand_values nodes (Agg kind path) =
+    option_map option_to_list (aggregate kind (values (nodes path)))

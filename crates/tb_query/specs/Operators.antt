@@ -66,7 +66,8 @@ group_row key (row ∷ rows) =
 
 -- rows whose first values of the key are equal, or that both have none, are a group
 abbrev pub has_same_key : ℕ → Row → Row → Bool
-has_same_key key row other = is_same_key (first_of (values_at key row)) (first_of (values_at key other))
+has_same_key key row other =
+    is_same_key (first_of (values_at key row)) (first_of (values_at key other))
 
 abbrev pub grouped_rows : ℕ → List Row → List Row
 grouped_rows key rows = map (group_row key) (grouped (has_same_key key) rows)
@@ -80,7 +81,8 @@ cell_aggregate Max cell = aggregate Max (values_of cell)
 
 abbrev pub aggregated : ℕ → AggKind → List Row → Option (List Row)
 aggregated from kind rows =
-    all_given (λ row. option_map (λ v. row ++ value v ∷ []) (cell_aggregate kind (cell_at from row))) rows
+    all_given
+    (λ row. option_map (λ v. row ++ value v ∷ []) (cell_aggregate kind (cell_at from row))) rows
 
 -- Order: sorted stably by the first values of columns, key after key
 abbrev pub row_keys : List SortKey → Row → List SortValue
@@ -88,7 +90,8 @@ row_keys keys row =
     map (λ k. record { value = first_of (values_at k.column row); descending = k.descending }) keys
 
 abbrev pub ordered_rows : List SortKey → List Row → List Row
-ordered_rows keys rows = sorted (λ row other. sort_values_cmp (row_keys keys row) (row_keys keys other)) rows
+ordered_rows keys rows =
+    sorted (λ row other. sort_values_cmp (row_keys keys row) (row_keys keys other)) rows
 
 -- Project: these columns, in this order
 abbrev pub projected : List ℕ → List Row → List Row

@@ -17,7 +17,8 @@ pub record SortValue : Type 0 where
 
 -- the order of keys, turned round where it is descending
 abbrev pub sort_cmp : SortValue → SortValue → Ordering
-sort_cmp a b = if a.descending then ordering_reverse (key_cmp a.value b.value) else key_cmp a.value b.value
+sort_cmp a b =
+    if a.descending then ordering_reverse (key_cmp a.value b.value) else key_cmp a.value b.value
 
 -- key after key
 abbrev pub sort_values_cmp : List SortValue → List SortValue → Ordering
@@ -31,5 +32,6 @@ sort_value nodes key =
     (operand_values nodes key.operand)
 
 -- an item with its keys
-abbrev pub keyed : {A : Type 0} → (A → Path → List Numbered) → List Key → A → Option (List SortValue × A)
+abbrev pub keyed :
+    {A : Type 0} → (A → Path → List Numbered) → List Key → A → Option (List SortValue × A)
 keyed nodes keys x = option_map (λ vs. (vs, x)) (all_given (sort_value (nodes x)) keys)

@@ -60,7 +60,8 @@ abbrev mutual
   pub parts_given : (Path → List Numbered) → PlainParts → Option Plains
   parts_given nodes no_parts = Some no_kids
   parts_given nodes (inner c rest) =
-      option_and_then (λ tree. option_map (kid tree) (parts_given nodes rest)) (element_given nodes c)
+      option_and_then (λ tree. option_map (kid tree) (parts_given nodes rest))
+      (element_given nodes c)
   parts_given nodes (content c rest) =
       option_and_then (λ trees. option_map (joined_kids (plains trees)) (parts_given nodes rest))
       (content_given nodes c)

@@ -16,7 +16,8 @@ pub data ColumnFrom : Type 0 where
 
 -- the nodes that the steps lead to from a start in the document of this number
 abbrev pub stepped : List Step → ℕ → From → List NodeIn
-stepped steps document from = map (λ u. record { document = document; at = u }) (nodes_from steps from)
+stepped steps document from =
+    map (λ u. record { document = document; at = u }) (nodes_from steps from)
 
 -- those from the document node of the name; documents are counted from n
 abbrev pub from_document : List Step → List ℕ → ℕ → Docs → List NodeIn
@@ -27,7 +28,9 @@ from_document steps name n (d ∷ docs) =
 
 -- those from each node of a cell, one after the other, each once at its first place
 abbrev pub from_cell : List Step → Cell → List NodeIn
-from_cell steps cell = each_once is_same (flat_map (λ u. stepped steps u.document (node_at u.at)) (nodes_of cell))
+from_cell steps cell =
+    each_once is_same
+    (flat_map (λ u. stepped steps u.document (node_at u.at)) (nodes_of cell))
 
 abbrev pub column_nodes : Docs → ColumnFrom → List Step → Row → List NodeIn
 column_nodes docs (of_document name) steps row = from_document steps name 0 docs
@@ -48,4 +51,5 @@ marked Any us = us ∷ []
 -- each row with one cell more, for each of the lists
 abbrev pub selected : Docs → ColumnFrom → List Step → Mark → List Row → List Row
 selected docs from steps mark rows =
-    flat_map (λ row. map (λ us. row ++ nodes us ∷ []) (marked mark (column_nodes docs from steps row))) rows
+    flat_map
+    (λ row. map (λ us. row ++ nodes us ∷ []) (marked mark (column_nodes docs from steps row))) rows

@@ -33,7 +33,8 @@ shape_given row (Column n) = cell_given (cell_at n row)
 -- an element whose parts are given already, and a part whose element is
 abbrev pub elem_step : Row → ShapeElem-F (List Plain) Plain → Plain
 elem_step row e =
-    made e.name (map (λ a. attr a.name (shape_value row a.from)) e.attrs) (plains (flat_map (λ ts. ts) e.parts))
+    made e.name (map (λ a. attr a.name (shape_value row a.from)) e.attrs)
+    (plains (flat_map (λ ts. ts) e.parts))
 
 abbrev pub part_step : Row → ShapePart-F (List Plain) Plain → List Plain
 part_step row (ShapePart-F.Elem tree) = tree ∷ []

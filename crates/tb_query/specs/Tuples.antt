@@ -74,7 +74,7 @@ abbrev pub extended : ℕ → Bool → Tuple → List Numbered → List Tuple
 extended var empty tuple [] = if empty then ((var, None) ∷ tuple) ∷ [] else []
 extended var empty tuple (u ∷ us) = map (λ v. (var, Some v) ∷ tuple) (u ∷ us)
 
--- the tuples, and the paths of the variables of `LET`, each of which starts at no other such variable
+-- the tuples, and the paths of the variables of `LET`, none of which starts at such a variable
 pub record Bindings : Type 0 where
   pub tuples : List Tuple
   pub lets : Lets

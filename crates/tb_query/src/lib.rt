@@ -2,8 +2,8 @@
 //!
 //! Readers of queries make its types, and every crate that plans or answers a query states its
 //! clauses by the definitions of its `specs/`. What is proved is that `documents` gives the names
-//! that a query has, each once (`names`), and that its answer depends on the documents of these names
-//! alone (`laws_of_answers`).
+//! that a query has, each once (`names`), and that its answer depends on their documents alone
+//! (`enough`, `laws_of_answers`).
 #![tactic(auto)]
 
 mod back;
