@@ -1,0 +1,11 @@
+pub mod Shorthand
+pub mod Asked
+pub mod OnceLaws
+pub mod AlikeLaws
+pub mod AgreeLaws
+pub mod PathRows
+pub mod ComparisonRows
+pub mod GroupRows
+pub mod ResultRows
+pub mod NameRows
+pub mod OperatorRows

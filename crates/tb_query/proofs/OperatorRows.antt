@@ -1,0 +1,95 @@
+-- Plans over rows, computed.
+use Rattle.std.proofs.Common.{◌≡◌, ℕ, List, [], ◌∷◌, map, length, refl, ap, ◌∙◌, rules, codes, Option, Some, option_map}
+use Rattle.std.specs.List.{flat_map}
+use mathlib.Core.Path.{fun_ext}
+use Rattle.tb_tree.specs.Plain.{Plain, attr, no_kids}
+use Rattle.tb_tree.specs.Printed.{printed_node}
+use Rattle.tb_tree.specs.declared.against.Against.TheVariants as against
+use Rattle.tb_tree.specs.declared.shape.Shape.TheVariants.{Elem}
+use Rattle.tb_tree.specs.declared.shape.ShapeElem.{ShapeElem, roll-ShapeElem}
+use Rattle.tb_tree.specs.declared.shape.ShapePart.{the_lemmas}
+use Rattle.tb_tree.specs.declared.shape.ShapeContent.TheVariants.{Column}
+use Rattle.tb_number.specs.Reading.{integer_of}
+use Rattle.tb_number.specs.Canonical.{canonical_text}
+use Rattle.tb_number.specs.declared.op.CmpOp.TheVariants.{Ne}
+use Rattle.tb_number.specs.declared.agg.AggKind.TheVariants.{Count}
+use Rattle.tb_pattern.specs.declared.pattern.Mark.TheVariants as marks
+use Rattle.tb_query.specs.Tuples.{Docs}
+use Rattle.tb_query.specs.Results.{made}
+use Rattle.tb_query.specs.Rows.{Row, values_of}
+use Rattle.tb_query.specs.Selected.{of_document, of_column, selected}
+use Rattle.tb_query.specs.Operators.{filtered, value_joined, grouped_rows, aggregated, projected, distinct}
+use Rattle.tb_query.specs.Shapes.{shape_value, shape_tree, constructed}
+use Rattle.tb_query.proofs.Shorthand.{el, leaf, child, below, attribute}
+use Rattle.tb_query.proofs.GroupRows.{bibliography}
+
+-- a table starts with one row and no column
+abbrev start : List Row
+start = [] ∷ []
+
+-- The plan of the books of each year: books, their authors, the year as key, groups, and a count.
+abbrev years : Option (List Row)
+years = aggregated 1 Count (grouped_rows 2
+    (selected bibliography (of_column 0) (attribute (codes "YEAR") ∷ []) marks.Any
+    (selected bibliography (of_column 0) (child (codes "AUTHOR") ∷ []) marks.One
+    (selected bibliography (of_document (codes "bib")) (below (codes "BOOK") ∷ []) marks.One start))))
+
+-- `<y v={column 3} n={column 4}/>`
+abbrev year : ShapeElem
+year = roll-ShapeElem (record {
+  name = codes "y";
+  attrs = record { name = codes "v"; from = Column 3 } ∷ record { name = codes "n"; from = Column 4 } ∷ [];
+  parts = [];
+})
+
+abbrev year_tree : Row → Plain
+year_tree row = made (codes "y")
+    (attr (codes "v") (shape_value row (Column 3)) ∷ attr (codes "n") (shape_value row (Column 4)) ∷ []) no_kids
+
+year-is : (row : Row) → shape_tree row year ≡ year_tree row
+year-is row = search (rules, the_lemmas)
+
+-- the lines are those of the query's answer
+pub plan-years : option_map (λ rows. flat_map printed_node (constructed (Elem year) rows)) years
+    ≡ Some (codes "Av CDATA 1994\nAn CDATA 1\n(y\n)y\nAv CDATA 2000\nAn CDATA 3\n(y\n)y\n")
+unfolding integer_of canonical_text
+plan-years =
+    ap (λ tree. option_map (λ rows. flat_map printed_node (flat_map (λ row. tree row ∷ []) rows)) years) (fun_ext year-is) ∙ refl
+
+-- `b` with two `c`, and `b` with none: how many rows each mark gives
+abbrev two : Docs
+two = (codes "m", el (codes "b") (leaf (codes "c") (codes "1") ∷ leaf (codes "c") (codes "01") ∷ [])) ∷ []
+
+abbrev rows_by_mark : List ℕ → List ℕ
+rows_by_mark name = map
+    (λ mark. length (selected two (of_document (codes "m")) (child (codes "b") ∷ child name ∷ []) mark start))
+    (marks.One ∷ marks.Optional ∷ marks.Some ∷ marks.Any ∷ [])
+
+pub marks-of_two : rows_by_mark (codes "c") ≡ 2 ∷ 2 ∷ 1 ∷ 1 ∷ []
+marks-of_two = refl
+
+pub marks-of_none : rows_by_mark (codes "d") ≡ 0 ∷ 1 ∷ 0 ∷ 1 ∷ []
+marks-of_none = refl
+
+-- each `c` with each `c`
+abbrev pairs : List Row
+pairs = selected two (of_document (codes "m")) (below (codes "c") ∷ []) marks.One
+    (selected two (of_document (codes "m")) (below (codes "c") ∷ []) marks.One start)
+
+abbrev shown : List Row → List (List (List (List ℕ)))
+shown rows = map (map values_of) rows
+
+-- all four are equal as values, and none is unequal
+pub joined-pairs : length (value_joined 0 1 pairs) ≡ 4
+unfolding integer_of
+joined-pairs = refl
+
+pub unequal-pairs : filtered 0 Ne (against.Column 1) pairs ≡ []
+unfolding integer_of
+unequal-pairs = refl
+
+-- the second column alone, each node once
+pub distinct-column : shown (distinct (projected (1 ∷ []) pairs))
+    ≡ (((codes "1") ∷ []) ∷ []) ∷ (((codes "01") ∷ []) ∷ []) ∷ []
+unfolding integer_of
+distinct-column = refl
