@@ -16,23 +16,19 @@ use Rattle.tb_number.specs.declared.agg.AggKind.TheVariants.{Count}
 use Rattle.tb_pattern.specs.declared.pattern.Mark.TheVariants as marks
 use Rattle.tb_query.specs.Tuples.{Docs}
 use Rattle.tb_query.specs.Results.{made}
-use Rattle.tb_query.specs.Rows.{Row, values_of}
+use Rattle.tb_query.specs.Rows.{Row, first_rows, values_of}
 use Rattle.tb_query.specs.Selected.{of_document, of_column, selected}
 use Rattle.tb_query.specs.Operators.{filtered, value_joined, grouped_rows, aggregated, projected, distinct}
 use Rattle.tb_query.specs.Shapes.{shape_value, shape_tree, constructed}
 use Rattle.tb_query.proofs.Shorthand.{el, leaf, child, below, attribute}
 use Rattle.tb_query.proofs.GroupRows.{bibliography}
 
--- a table starts with one row and no column
-abbrev start : List Row
-start = [] ∷ []
-
 -- The plan of the books of each year: books, their authors, the year as key, groups, and a count.
 abbrev years : Option (List Row)
 years = aggregated 1 Count (grouped_rows 2
     (selected bibliography (of_column 0) (attribute (codes "YEAR") ∷ []) marks.Any
     (selected bibliography (of_column 0) (child (codes "AUTHOR") ∷ []) marks.One
-    (selected bibliography (of_document (codes "bib")) (below (codes "BOOK") ∷ []) marks.One start))))
+    (selected bibliography (of_document (codes "bib")) (below (codes "BOOK") ∷ []) marks.One first_rows))))
 
 -- `<y v={column 3} n={column 4}/>`
 abbrev year : ShapeElem
@@ -62,7 +58,7 @@ two = (codes "m", el (codes "b") (leaf (codes "c") (codes "1") ∷ leaf (codes "
 
 abbrev rows_by_mark : List ℕ → List ℕ
 rows_by_mark name = map
-    (λ mark. length (selected two (of_document (codes "m")) (child (codes "b") ∷ child name ∷ []) mark start))
+    (λ mark. length (selected two (of_document (codes "m")) (child (codes "b") ∷ child name ∷ []) mark first_rows))
     (marks.One ∷ marks.Optional ∷ marks.Some ∷ marks.Any ∷ [])
 
 pub marks-of_two : rows_by_mark (codes "c") ≡ 2 ∷ 2 ∷ 1 ∷ 1 ∷ []
@@ -74,7 +70,7 @@ marks-of_none = refl
 -- each `c` with each `c`
 abbrev pairs : List Row
 pairs = selected two (of_document (codes "m")) (below (codes "c") ∷ []) marks.One
-    (selected two (of_document (codes "m")) (below (codes "c") ∷ []) marks.One start)
+    (selected two (of_document (codes "m")) (below (codes "c") ∷ []) marks.One first_rows)
 
 abbrev shown : List Row → List (List (List (List ℕ)))
 shown rows = map (map values_of) rows

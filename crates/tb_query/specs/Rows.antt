@@ -18,6 +18,10 @@ pub data Cell : Type 0 where
 abbrev pub Row : Type 0
 Row = List Cell
 
+-- a table starts with one row and no column
+abbrev pub first_rows : List Row
+first_rows = [] ∷ []
+
 -- the cell in a column, counted from 0
 abbrev pub cell_at : ℕ → Row → Cell
 cell_at n [] = nodes []
