@@ -2,9 +2,10 @@
 use Rattle.std.proofs.Common.{◌≡◌, ℕ, true, false, List, [], ◌∷◌, refl, rules, codes, Option, Some, None}
 use Rattle.std.specs.Prelude.{pos}
 use Rattle.tb_tree.specs.Plain.{Plain}
+use Rattle.tb_number.specs.Canonical.{canonical_text}
 use Rattle.tb_number.specs.Reading.{integer_of}
 use Rattle.tb_number.specs.declared.op.CmpOp.{CmpOp}
-use Rattle.tb_number.specs.declared.op.CmpOp.TheVariants.{Eq, Ne, Gt}
+use Rattle.tb_number.specs.declared.op.CmpOp.TheVariants.{Eq, Ne, Lt, Gt}
 use Rattle.tb_number.specs.declared.agg.AggKind.TheVariants.{Sum}
 use Rattle.tb_pattern.specs.declared.cond.Literal.{Literal}
 use Rattle.tb_pattern.specs.declared.cond.Literal.TheVariants.{Number, Text}
@@ -191,3 +192,45 @@ sum-then_taken = refl
 pub right-taken : kept past (compared (nodes (at_var 0 (child (codes "z") ∷ []))) Eq (agg Sum (at_var 0 (child (codes "v") ∷ []))) ∷ []) ≡ None
 unfolding integer_of
 right-taken = refl
+
+-- those with a sum are tested in written order: the sum of `n`, 0, isn't above 5
+abbrev small : Comparison
+small = compared_to (agg Sum (at_var 0 (child (codes "n") ∷ []))) Gt (Number (pos 5))
+
+pub sums-first_fails : kept past (small ∷ positive ∷ []) ≡ failing
+unfolding integer_of canonical_text
+sums-first_fails = refl
+
+pub sums-first_past : kept past (positive ∷ small ∷ []) ≡ None
+unfolding integer_of
+sums-first_past = refl
+
+-- a sum on the right waits, too, and is taken where the left side has no value
+abbrev right_sum : Comparison
+right_sum = compared (nodes (at_var 0 (child (codes "z") ∷ []))) Eq (agg Sum (at_var 0 (child (codes "v") ∷ [])))
+
+pub right_sum-taken : kept past (right_sum ∷ []) ≡ None
+unfolding integer_of
+right_sum-taken = refl
+
+pub right_sum-waits : kept past (right_sum ∷ stand_to (codes "z") Eq (Text [])) ≡ failing
+unfolding integer_of
+right_sum-waits = refl
+
+-- operands are compared as numbers where both are integer texts, and else by bytes
+pub operand-less_number : kept (leaf (codes "a") (codes "9") ∷ leaf (codes "b") (codes "10") ∷ []) (stand (codes "a") Lt (codes "b")) ≡ holding
+unfolding integer_of
+operand-less_number = refl
+
+pub operand-less_bytes : kept (leaf (codes "a") (codes "9x") ∷ leaf (codes "b") (codes "10") ∷ []) (stand (codes "b") Lt (codes "a")) ≡ holding
+unfolding integer_of
+operand-less_bytes = refl
+
+-- `FOR $b IN document("m")//b, $c ALLOWING EMPTY IN $b/c, $e IN $c/e RETURN $b`: from an empty
+-- variable a path gives no node
+pub empty-no_path : answered lone (query
+    (For 0 false (in_document (codes "m") (below (codes "b") ∷ []))
+    ∷ For 1 true (at_var 0 (child (codes "c") ∷ []))
+    ∷ For 2 false (at_var 1 (child (codes "e") ∷ [])) ∷ []) [] None [] (Nodes (at_var 0 [])))
+    ≡ Some (0, [])
+empty-no_path = refl

@@ -19,18 +19,18 @@ use Rattle.tb_query.proofs.Shorthand.{el, leaf, child, below, attribute, any_chi
 use Rattle.tb_query.proofs.Asked.{answer-back}
 
 -- three books: of 1994 with one author, of 2000 with three, of 1999 with none
-abbrev pub book : List ℕ → List ℕ → List Plain → Plain
-book year title authors =
-    el (codes "BOOK") (attr (codes "YEAR") year ∷ leaf (codes "TITLE") title ∷ authors)
+abbrev pub book : List ℕ → List ℕ → List ℕ → List Plain → Plain
+book id year title authors =
+    el (codes "BOOK") (attr (codes "ID") id ∷ attr (codes "YEAR") year ∷ leaf (codes "TITLE") title ∷ authors)
 
 abbrev pub bibliography : Docs
 bibliography = (
   codes "bib",
   el (codes "BIB")
-      (book (codes "1994") (codes "TCP/IP") (leaf (codes "AUTHOR") (codes "Stevens") ∷ [])
-      ∷ book (codes "2000") (codes "Data")
+      (book (codes "B1") (codes "1994") (codes "TCP/IP Illustrated") (leaf (codes "AUTHOR") (codes "Stevens") ∷ [])
+      ∷ book (codes "B2") (codes "2000") (codes "Data on the Web")
       (leaf (codes "AUTHOR") (codes "Abiteboul") ∷ leaf (codes "AUTHOR") (codes "Buneman") ∷ leaf (codes "AUTHOR") (codes "Suciu") ∷ [])
-      ∷ book (codes "1999") (codes "Digital") [] ∷ []),
+      ∷ book (codes "B3") (codes "1999") (codes "Digital TV") [] ∷ []),
 ) ∷ []
 
 -- `FOR $b IN document("bib")//BOOK, $a IN $b/AUTHOR GROUP BY $k := $b/@YEAR
@@ -56,7 +56,7 @@ pub ordered-titles : answered bibliography (query
     (For 0 false (in_document (codes "bib") (below (codes "BOOK") ∷ [])) ∷ []) [] None
     (record { operand = nodes (at_var 0 (child (codes "TITLE") ∷ [])); descending = false } ∷ [])
     (Nodes (at_var 0 (child (codes "TITLE") ∷ []))))
-    ≡ Some (3, codes "(TITLE\n-Data\n)TITLE\n(TITLE\n-Digital\n)TITLE\n(TITLE\n-TCP/IP\n)TITLE\n")
+    ≡ Some (3, codes "(TITLE\n-Data on the Web\n)TITLE\n(TITLE\n-Digital TV\n)TITLE\n(TITLE\n-TCP/IP Illustrated\n)TITLE\n")
 unfolding integer_of
 ordered-titles = refl
 
@@ -81,7 +81,7 @@ hit = cons_back (element (codes "hit") year_of
     no_parts)))
 
 pub ordered-hits : answered bibliography hits
-    ≡ Some (2, codes "Ayear CDATA 2000\n(hit\n(TITLE\n-Data\n)TITLE\n(n\n-3\n)n\n)hit\nAyear CDATA 1999\n(hit\n(TITLE\n-Digital\n)TITLE\n(n\n-0\n)n\n)hit\n")
+    ≡ Some (2, codes "Ayear CDATA 2000\n(hit\n(TITLE\n-Data on the Web\n)TITLE\n(n\n-3\n)n\n)hit\nAyear CDATA 1999\n(hit\n(TITLE\n-Digital TV\n)TITLE\n(n\n-0\n)n\n)hit\n")
 unfolding integer_of canonical_text
 ordered-hits = answer-back bibliography hits hit _ (search (rules, the_lemmas)) refl
 

@@ -6,6 +6,7 @@ pub mod AgreeLaws
 pub mod PathRows
 pub mod ComparisonRows
 pub mod GroupRows
+pub mod KeyRows
 pub mod ResultRows
 pub mod NameRows
 pub mod OperatorRows

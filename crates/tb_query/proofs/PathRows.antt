@@ -15,7 +15,7 @@ use Rattle.tb_query.specs.declared.back.Back.TheVariants.{Nodes}
 use Rattle.tb_query.specs.declared.clause.Clause.{Clause}
 use Rattle.tb_query.specs.declared.clause.Clause.TheVariants.{For, Let}
 use Rattle.tb_query.specs.declared.query.Query.TheVariants.{Match}
-use Rattle.tb_query.proofs.Shorthand.{el, child, below, attribute_below, in_document, at_var, query, answered}
+use Rattle.tb_query.proofs.Shorthand.{el, leaf, child, below, attribute_below, in_document, at_var, query, answered}
 use Rattle.tb_query.proofs.Asked.{answer-edges}
 
 -- one `y` below two `x`
@@ -61,6 +61,14 @@ pub attribute-own : answered
     (Nodes (at_var 0 (attribute_below (codes "id") ∷ []))))
     ≡ Some (2, codes "(@id\n-1\n)@id\n(@id\n-2\n)@id\n")
 attribute-own = refl
+
+-- `FOR $y IN document("d")//x/y RETURN $y`, where the inner `x` has the first `y`: nodes stand in
+-- the order of the document, and not of the witnesses, in which the outer `x` comes first
+pub path-document_order : answered
+    ((codes "d", el (codes "x") (el (codes "x") (leaf (codes "y") (codes "1") ∷ []) ∷ leaf (codes "y") (codes "2") ∷ [])) ∷ [])
+    (query (For 0 false (in_document (codes "d") (below (codes "x") ∷ child (codes "y") ∷ [])) ∷ []) [] None [] (Nodes (at_var 0 [])))
+    ≡ Some (2, codes "(y\n-1\n)y\n(y\n-2\n)y\n")
+path-document_order = refl
 
 -- `FOR $x IN document("none")//x RETURN $x`
 pub absent-nothing : returned (For 0 false (in_document (codes "none") (below (codes "x") ∷ [])) ∷ []) (at_var 0 [])

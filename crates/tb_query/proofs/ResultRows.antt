@@ -139,6 +139,20 @@ pub texts-join : answered mixed joining
     ≡ Some (1, codes "Aat CDATA one two\n(t\n-and onetwo\n(@id\n-7\n)@id\n)t\n")
 texts-join = answer-back mixed joining joint _ (search (rules, the_lemmas)) refl
 
+-- `FOR $p IN document("e")/p RETURN $p/@id`, where its value is empty: an element without kids
+pub attribute-empty : answered ((codes "e", el (codes "p") (attr (codes "id") [] ∷ [])) ∷ [])
+    (query (For 0 false (in_document (codes "e") (child (codes "p") ∷ [])) ∷ []) [] None []
+    (Nodes (at_var 0 (attribute (codes "id") ∷ []))))
+    ≡ Some (1, codes "(@id\n)@id\n")
+attribute-empty = refl
+
+-- `FOR $p IN document("e")/p RETURN $p/text()` over an empty text, which no document has: no tree
+pub empty_text-none : answered ((codes "e", el (codes "p") (text [] ∷ [])) ∷ [])
+    (query (For 0 false (in_document (codes "e") (child (codes "p") ∷ [])) ∷ []) [] None []
+    (Nodes (at_var 0 (texts ∷ []))))
+    ≡ Some (0, [])
+empty_text-none = refl
+
 -- `MATCH document("m") (//* text())`: in a witness tree they join, too
 abbrev all_texts : Pattern
 all_texts = record {

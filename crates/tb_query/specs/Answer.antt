@@ -43,6 +43,7 @@ bound_trees docs b q back =
     (λ tuples. ordered_groups docs b.lets q.keys (groups_of docs b.lets q.group tuples))
     (kept_tuples docs b q.conds))
 
+-- the trees of a query of clauses
 abbrev pub flwor_trees : Docs → flwor.Flwor → PlainBack → Option (List Plain)
 flwor_trees docs q back = bound_trees docs (bindings docs q.clauses) q back
 
@@ -51,6 +52,7 @@ abbrev pub match_trees : PlainEdges → Option Plain → List Plain
 match_trees edges None = []
 match_trees edges (Some root) = map (witness_tree edges) (naive_witnesses edges root)
 
+-- the trees of any query
 abbrev pub trees_of_query : Docs → Query → Option (List Plain)
 trees_of_query docs (Match p) = Some (match_trees (edges_of p.edges) (found p.document docs))
 trees_of_query docs (Flwor q) = flwor_trees docs q (back_of q.back)
@@ -59,5 +61,6 @@ trees_of_query docs (Flwor q) = flwor_trees docs q (back_of q.back)
 abbrev pub counted : List Plain → ℕ × List ℕ
 counted trees = (length trees, flat_map printed_node trees)
 
+-- the answer
 abbrev pub answer : Docs → Query → Option (ℕ × List ℕ)
 answer docs q = option_map counted (trees_of_query docs q)

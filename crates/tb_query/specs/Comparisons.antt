@@ -42,14 +42,17 @@ abbrev pub is_sum : AggKind → Bool
 is_sum Sum = true
 is_sum _ = false
 
+-- an operand is a sum
 abbrev pub takes_sum : operand.Operand → Bool
 takes_sum (Nodes path) = false
 takes_sum (Agg kind path) = is_sum kind
 
+-- a literal takes none
 abbrev pub right_takes_sum : Right → Bool
 right_takes_sum (Operand right) = takes_sum right
 right_takes_sum (Literal to) = false
 
+-- a comparison takes a sum on either side
 abbrev pub has_sum : Comparison → Bool
 has_sum c = takes_sum c.left || right_takes_sum c.right
 

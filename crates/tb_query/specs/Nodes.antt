@@ -24,10 +24,12 @@ abbrev mutual
   last_of (witness number node no_offers) = number ∷ []
   last_of (witness number node (offer ws others)) = last_of_all ws ++ last_in others
 
+  -- those of each witness, one after the other
   pub last_of_all : Witnesses → List ℕ
   last_of_all no_witnesses = []
   last_of_all (then_witness w ws) = last_of w ++ last_of_all ws
 
+  -- those of each offer, one after the other
   pub last_in : Offers → List ℕ
   last_in no_offers = []
   last_in (offer ws others) = last_of_all ws ++ last_in others

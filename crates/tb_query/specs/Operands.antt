@@ -31,6 +31,7 @@ abbrev pub least : List ℤ → Option ℤ
 least [] = None
 least (n ∷ ns) = Some (fold int_min n ns)
 
+-- the greatest number, or none where there is no number
 abbrev pub greatest : List ℤ → Option ℤ
 greatest [] = None
 greatest (n ∷ ns) = Some (fold int_max n ns)

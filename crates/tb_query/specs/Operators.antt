@@ -1,4 +1,5 @@
--- The operators of a plan over rows, but for those that add nodes and make trees.
+-- The operators of a plan over rows, but for those that add nodes and make trees. `Match`, which is
+-- alone in its plan, gives the trees of `match_trees` in `Answer`.
 use Rattle.std.specs.Prelude.{ℕ, Bool, List, [], ◌∷◌, ◌++◌, pos, Option, Some, option_map, map, filter, flat_map, fold, length}
 use Rattle.tb_tree.specs.declared.against.Against.{Against}
 use Rattle.tb_tree.specs.declared.against.Against.TheVariants.{Column, Number, Text}
@@ -16,6 +17,7 @@ use Rattle.tb_query.specs.Groups.{is_same_key}
 use Rattle.tb_query.specs.Order.{SortValue, sort_values_cmp}
 use Rattle.tb_query.specs.Rows.{NodeIn, Cell, nodes, value, Row, cell_at, nodes_of, values_of, is_same, is_same_row}
 
+-- the values in a column
 abbrev pub values_at : ℕ → Row → List (List ℕ)
 values_at n row = values_of (cell_at n row)
 
@@ -25,6 +27,7 @@ stands_against op left (Column n) row = some_stand op left (values_at n row)
 stands_against op left (Number n) row = some_stand_to op left (literals.Number n)
 stands_against op left (Text bytes) row = some_stand_to op left (literals.Text bytes)
 
+-- the rows that stand so, in order
 abbrev pub filtered : ℕ → CmpOp → Against → List Row → List Row
 filtered left op right rows = filter (λ row. stands_against op (values_at left row) right row) rows
 
@@ -45,10 +48,12 @@ abbrev pub merged_cell : Cell → Cell → Cell
 merged_cell (nodes us) cell = nodes (us ++ nodes_of cell)
 merged_cell (value v) cell = value v
 
+-- two rows of a group as one, cell by cell
 abbrev pub merged : Row → Row → Row
 merged (c ∷ row) (d ∷ other) = merged_cell c d ∷ merged row other
 merged row _ = row
 
+-- each node once
 abbrev pub once_cell : Cell → Cell
 once_cell (nodes us) = nodes (each_once is_same us)
 once_cell (value v) = value v
@@ -69,6 +74,7 @@ abbrev pub has_same_key : ℕ → Row → Row → Bool
 has_same_key key row other =
     is_same_key (first_of (values_at key row)) (first_of (values_at key other))
 
+-- a row for each group, in the order of their first rows
 abbrev pub grouped_rows : ℕ → List Row → List Row
 grouped_rows key rows = map (group_row key) (grouped (has_same_key key) rows)
 
@@ -79,6 +85,7 @@ cell_aggregate Sum cell = aggregate Sum (values_of cell)
 cell_aggregate Min cell = aggregate Min (values_of cell)
 cell_aggregate Max cell = aggregate Max (values_of cell)
 
+-- each row with the aggregate of a column behind it
 abbrev pub aggregated : ℕ → AggKind → List Row → Option (List Row)
 aggregated from kind rows =
     all_given
@@ -89,6 +96,7 @@ abbrev pub row_keys : List SortKey → Row → List SortValue
 row_keys keys row =
     map (λ k. record { value = first_of (values_at k.column row); descending = k.descending }) keys
 
+-- the rows in order, ties in theirs
 abbrev pub ordered_rows : List SortKey → List Row → List Row
 ordered_rows keys rows =
     sorted (λ row other. sort_values_cmp (row_keys keys row) (row_keys keys other)) rows

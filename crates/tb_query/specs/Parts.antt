@@ -39,6 +39,7 @@ plain_parts (p ∷ ps) = before p (plain_parts ps)
 abbrev pub cons_step : Cons-F PlainPart PlainCons → PlainCons
 cons_step c = element c.name c.attrs (plain_parts c.parts)
 
+-- one part whose constructor is seen already
 abbrev pub part_step : Part-F PlainPart PlainCons → PlainPart
 part_step (Part-F.Cons c) = constructor c
 part_step (Part-F.Content c) = given c
@@ -47,6 +48,7 @@ part_step (Part-F.Content c) = given c
 abbrev pub cons_of : cons.Cons → PlainCons
 cons_of = cons.fold-Cons PlainPart PlainCons part_step cons_step
 
+-- the plain part
 abbrev pub part_of : part.Part → PlainPart
 part_of = part.fold-Part PlainPart PlainCons part_step cons_step
 
@@ -55,6 +57,7 @@ pub data PlainBack : Type 0 where
   nodes_back : Path → PlainBack
   cons_back : PlainCons → PlainBack
 
+-- the plain form of what stands behind RETURN
 abbrev pub back_of : Back → PlainBack
 back_of (Nodes path) = nodes_back path
 back_of (Cons c) = cons_back (cons_of c)

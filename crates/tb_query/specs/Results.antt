@@ -1,5 +1,5 @@
 -- The trees that a group gives.
-use Rattle.std.specs.Prelude.{ℕ, List, [], ◌∷◌, Option, Some, option_map, option_and_then, map}
+use Rattle.std.specs.Prelude.{ℕ, Bool, true, false, List, [], ◌∷◌, Option, Some, option_map, option_and_then, filter, map}
 use Rattle.std.specs.List.{join_with_byte}
 use Rattle.std.specs.Option.{option_to_list}
 use Rattle.tb_tree.specs.Plain.{Plain, elem, attr, text, Plains, no_kids, kid, plains, joined_kids}
@@ -22,14 +22,23 @@ given_tree (elem name kids) = elem name kids
 given_tree (attr name value) = elem (64 ∷ name) (texts_joined (kid (text value) no_kids))
 given_tree (text value) = text value
 
+-- an element, or a text that isn't empty
+abbrev pub is_result : Plain → Bool
+is_result (elem name kids) = true
+is_result (attr name value) = false
+is_result (text []) = false
+is_result (text (b ∷ bs)) = true
+
+-- the trees of nodes, one each; an empty text gives none
 abbrev pub given_trees : List Numbered → List Plain
-given_trees nodes = map (λ u. given_tree u.node) nodes
+given_trees nodes = filter is_result (map (λ u. given_tree u.node) nodes)
 
 -- the value of an attribute: a string, or the values of an operand joined by one space
 abbrev pub attribute_value : (Path → List Numbered) → contents.Content → Option (List ℕ)
 attribute_value nodes (Text bytes) = Some bytes
 attribute_value nodes (Operand o) = option_map (join_with_byte 32) (operand_values nodes o)
 
+-- an attribute with its value
 abbrev pub attribute_given : (Path → List Numbered) → AttrPart → Option Plain
 attribute_given nodes a = option_map (attr a.name) (attribute_value nodes a.from)
 

@@ -15,6 +15,7 @@ pub data Cell : Type 0 where
   nodes : List NodeIn → Cell
   value : Option (List ℕ) → Cell
 
+-- a cell a column
 abbrev pub Row : Type 0
 Row = List Cell
 
@@ -42,6 +43,7 @@ values_of (value v) = option_to_list v
 abbrev pub is_same : NodeIn → NodeIn → Bool
 is_same u v = u.document == v.document && u.at.number == v.at.number
 
+-- the same nodes one by one
 abbrev pub are_same : List NodeIn → List NodeIn → Bool
 are_same [] [] = true
 are_same (u ∷ us) (v ∷ vs) = is_same u v && are_same us vs

@@ -32,6 +32,7 @@ from_cell steps cell =
     each_once is_same
     (flat_map (λ u. stepped steps u.document (node_at u.at)) (nodes_of cell))
 
+-- the nodes of a new column for a row
 abbrev pub column_nodes : Docs → ColumnFrom → List Step → Row → List NodeIn
 column_nodes docs (of_document name) steps row = from_document steps name 0 docs
 column_nodes docs (of_column n) steps row = from_cell steps (cell_at n row)
@@ -40,6 +41,7 @@ column_nodes docs (of_column n) steps row = from_cell steps (cell_at n row)
 abbrev pub each_node : List NodeIn → List (List NodeIn)
 each_node us = map (λ u. u ∷ []) us
 
+-- `-` each alone; `?` each alone, or none; `+` all together, where there is one; `*` all together
 abbrev pub marked : Mark → List NodeIn → List (List NodeIn)
 marked One us = each_node us
 marked Optional [] = [] ∷ []

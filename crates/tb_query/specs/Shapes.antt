@@ -26,6 +26,7 @@ abbrev pub cell_given : Cell → List Plain
 cell_given (nodes us) = cell_trees us
 cell_given (value v) = map text (option_to_list v)
 
+-- of a text or a column
 abbrev pub shape_given : Row → ShapeContent → List Plain
 shape_given row (Text bytes) = text bytes ∷ []
 shape_given row (Column n) = cell_given (cell_at n row)
@@ -40,6 +41,7 @@ abbrev pub part_step : Row → ShapePart-F (List Plain) Plain → List Plain
 part_step row (ShapePart-F.Elem tree) = tree ∷ []
 part_step row (ShapePart-F.Content c) = shape_given row c
 
+-- the element of a row
 abbrev pub shape_tree : Row → ShapeElem → Plain
 shape_tree row = fold-ShapeElem (List Plain) Plain (part_step row) (elem_step row)
 

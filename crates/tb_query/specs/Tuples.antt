@@ -34,10 +34,12 @@ abbrev pub from_root : Option Plain → From
 from_root None = nowhere
 from_root (Some root) = document_node root
 
+-- no node where the variable is empty
 abbrev pub from_node : Option Numbered → From
 from_node None = nowhere
 from_node (Some u) = node_at u
 
+-- where a path starts, over documents and for a tuple
 abbrev pub start_in : Docs → Tuple → Start → From
 start_in docs tuple (Document name) = from_root (found name docs)
 start_in docs tuple (Var var) = from_node (bound var tuple)
@@ -60,6 +62,7 @@ abbrev pub behind_variable : ℕ → Option Path → List Step → Path
 behind_variable var None steps = record { start = Var var; steps = steps }
 behind_variable var (Some path) steps = record { start = path.start; steps = path.steps ++ steps }
 
+-- a path from a document stands for itself
 abbrev pub standing_from : Lets → Start → List Step → Path
 standing_from lets (Document name) steps = record { start = Document name; steps = steps }
 standing_from lets (Var var) steps = behind_variable var (let_path var lets) steps

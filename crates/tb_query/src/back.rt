@@ -10,8 +10,8 @@ pub enum Back {
     Cons(Cons),
 }
 
-/// A constructor of an element. A caller of this crate gives it a name of a document, and to its
-/// attributes different ones.
+/// A constructor of an element. Its name is one that an element may have, and its attributes have
+/// different ones, where trees are to be made of it.
 #[cycle(constructor)]
 #[derive(Debug, Drop)]
 pub struct Cons {

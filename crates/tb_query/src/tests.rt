@@ -67,10 +67,10 @@ fn join(alloc: Global) -> Result<Query, AllocError> {
     }))
 }
 
-// `<t a={document("e")}>"x"<s>{document("f")}</s>{document("b")}</t>`
+// `<t a={document("g")}>"x"<s>{document("h")}</s>{document("b")}</t>`
 fn constructor(alloc: Global) -> Result<Cons, AllocError> {
     let mut inner = Vec::new(alloc);
-    inner.push(Part::Content(Content::Operand(nodes(alloc, b"f")?)))?;
+    inner.push(Part::Content(Content::Operand(nodes(alloc, b"h")?)))?;
     let mut parts = Vec::new(alloc);
     parts.push(Part::Content(Content::Text(bytes(alloc, b"x")?)))?;
     parts.push(Part::Cons(Cons {
@@ -82,7 +82,7 @@ fn constructor(alloc: Global) -> Result<Cons, AllocError> {
     let mut attrs = Vec::new(alloc);
     attrs.push(AttrPart {
         name: bytes(alloc, b"a")?,
-        from: Content::Operand(nodes(alloc, b"e")?),
+        from: Content::Operand(nodes(alloc, b"g")?),
     })?;
     Ok(Cons {
         name: bytes(alloc, b"t")?,
@@ -91,8 +91,8 @@ fn constructor(alloc: Global) -> Result<Cons, AllocError> {
     })
 }
 
-// `LET $x := document("b") FOR $y IN document("a") WHERE document("c") = sum(document("b"))
-// GROUP BY $k := document("d") ORDER BY document("a")`, and then the constructor
+// `LET $x := document("b") FOR $y IN document("a") WHERE document("c") = sum(document("d"))
+// GROUP BY $k := document("e") ORDER BY document("f")`, and then the constructor
 fn everywhere(alloc: Global) -> Result<Query, AllocError> {
     let mut clauses = Vec::new(alloc);
     clauses.push(Clause::Let {
@@ -106,12 +106,12 @@ fn everywhere(alloc: Global) -> Result<Query, AllocError> {
         op: CmpOp::Eq,
         right: Right::Operand(Operand::Agg {
             kind: AggKind::Sum,
-            path: in_document(alloc, b"b")?,
+            path: in_document(alloc, b"d")?,
         }),
     })?;
     let mut keys = Vec::new(alloc);
     keys.push(Key {
-        operand: nodes(alloc, b"a")?,
+        operand: nodes(alloc, b"f")?,
         descending: true,
     })?;
     Ok(Query::Flwor(Flwor {
@@ -119,7 +119,7 @@ fn everywhere(alloc: Global) -> Result<Query, AllocError> {
         conds: Items::from_vec(conds),
         group: Some(GroupBy {
             var: 2,
-            path: in_document(alloc, b"d")?,
+            path: in_document(alloc, b"e")?,
         }),
         keys: Items::from_vec(keys),
         back: Back::Cons(constructor(alloc)?),
@@ -148,7 +148,7 @@ fn a_join_names_both_documents(rt: HostRuntime) -> Result<(), Fail> {
 fn each_name_is_given_once_at_its_first_place(rt: HostRuntime) -> Result<(), Fail> {
     let query = everywhere(rt.alloc())?;
     let names = names_of(rt.alloc(), &query)?;
-    assert_eq!(rt; names.as_slice(), b"b;a;c;d;e;f;".as_slice());
+    assert_eq!(rt; names.as_slice(), b"b;a;c;d;e;f;g;h;".as_slice());
     Ok(())
 }
 
