@@ -9,3 +9,4 @@ pub mod GroupRows
 pub mod ResultRows
 pub mod NameRows
 pub mod OperatorRows
+pub mod TableRows
