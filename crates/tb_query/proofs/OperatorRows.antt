@@ -1,5 +1,5 @@
 -- Plans over rows, computed.
-use Rattle.std.proofs.Common.{◌≡◌, ℕ, List, [], ◌∷◌, map, length, refl, ap, ◌∙◌, rules, codes, Option, Some, option_map}
+use Rattle.std.proofs.Common.{◌≡◌, ℕ, List, [], ◌∷◌, map, length, refl, ap, ◌∙◌, rules, codes, Option, Some, None, option_map}
 use Rattle.std.specs.List.{flat_map}
 use mathlib.Core.Path.{fun_ext}
 use Rattle.tb_tree.specs.Plain.{Plain, attr, text, no_kids}
@@ -114,6 +114,13 @@ pub selected-once : selected [] (of_column 0) (below (codes "c") ∷ []) marks.S
     ((nodes (numbered 4 inner_s ∷ numbered 1 outer_r ∷ []) ∷ []) ∷ [])
     ≡ (nodes (numbered 4 inner_s ∷ numbered 1 outer_r ∷ []) ∷ nodes (second_c ∷ first_c ∷ []) ∷ []) ∷ []
 selected-once = refl
+
+-- A column from a document has the nodes of the document of that name, with its number.
+pub selected-second_document : selected
+    ((codes "m", outer_r) ∷ (codes "n", inner_s) ∷ []) (of_document (codes "n")) (below (codes "c") ∷ []) marks.One
+    ((value None ∷ []) ∷ [])
+    ≡ (value None ∷ nodes (record { document = 1; at = record { number = 2; node = leaf (codes "c") (codes "y") } } ∷ []) ∷ []) ∷ []
+selected-second_document = refl
 
 -- The rows that each mark makes of one row: with the two matches `c`, and with the match `d`, which
 -- is none.

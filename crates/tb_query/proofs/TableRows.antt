@@ -8,7 +8,7 @@ use Rattle.tb_number.specs.Canonical.{canonical_text}
 use Rattle.tb_number.specs.declared.op.CmpOp.TheVariants.{Eq, Ne}
 use Rattle.tb_number.specs.declared.agg.AggKind.TheVariants.{Count, Sum, Min, Max}
 use Rattle.tb_query.specs.Rows.{NodeIn, Cell, nodes, value, Row}
-use Rattle.tb_query.specs.Operators.{filtered, value_joined, tables_joined, grouped_rows, aggregated, ordered_rows, distinct}
+use Rattle.tb_query.specs.Operators.{filtered, value_joined, tables_joined, grouped_rows, aggregated, ordered_rows, projected, distinct}
 
 -- the node of this number in a document, a text, and a cell with one such node of the first document
 abbrev node_of : ℕ → ℕ → List ℕ → NodeIn
@@ -115,6 +115,11 @@ pub grouped-apart : grouped_rows 1
     ∷ (one 7 (codes "k") ∷ one 3 (codes "A") ∷ value (Some (codes "6")) ∷ one 3 (codes "A") ∷ []) ∷ []
 unfolding integer_of
 grouped-apart = refl
+
+-- Columns stand in the order that is asked for, and one that isn't asked for is gone.
+pub projected-in_order : projected (2 ∷ 0 ∷ []) ((one 1 (codes "a") ∷ one 2 (codes "b") ∷ value None ∷ []) ∷ [])
+    ≡ (value None ∷ one 1 (codes "a") ∷ []) ∷ []
+projected-in_order = refl
 
 -- Equal values are one row, and the first one stays: 007 is 7.
 pub distinct-values : distinct
