@@ -10,3 +10,4 @@ pub mod KeyRows
 pub mod ResultRows
 pub mod NameRows
 pub mod OperatorRows
+pub mod TableRows
