@@ -1,0 +1,16 @@
+-- A part of the program and its part, level by level.
+use Rattle.std.proofs.Common.{◌≡◌, ℕ, List, rules}
+use Rattle.std.specs.Borrow.{Bor}
+use Rattle.tb_grammar.specs.Grammar as grammar
+use Rattle.tb_reading.specs.View.{part_of}
+use Rattle.tb_reading.specs.declared.part.Part.{Part, the_lemmas}
+use Rattle.tb_reading.specs.declared.part.Part.TheVariants as part
+
+pub part_of-Both : (p q : Bor Part) → part_of (part.Both p q) ≡ grammar.both (part_of p.now) (part_of q.now)
+part_of-Both p q = search (rules, the_lemmas)
+
+pub part_of-Many : (p : Bor Part) → part_of (part.Many p) ≡ grammar.many (part_of p.now)
+part_of-Many p = search (rules, the_lemmas)
+
+pub part_of-Opened : (cs : Bor (List ℕ)) (n : ℕ) → part_of (part.Opened cs n) ≡ grammar.opened cs.now n
+part_of-Opened cs n = search (rules, the_lemmas)
