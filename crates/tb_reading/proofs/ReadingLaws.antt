@@ -1,10 +1,13 @@
 -- The reading of the tokens that are left is that of them all, and ends where they are wrong.
-use Rattle.std.proofs.Common.{◌≡◌, ℕ, ◌+◌, ◌-◌, ◌<◌, ◌≤◌, true, false, cond, List, [], ◌∷◌, length, drop, get_or, Some, None, sym, ap, ◌∙◌, arith, length-drop}
+use Rattle.std.proofs.Common.{◌≡◌, ℕ, ◌+◌, ◌-◌, ◌<◌, ◌≤◌, true, false, cond, List, [], ◌∷◌, length, drop, get_or, Option, Some, None, sym, ap, ◌∙◌, arith, length-drop}
 use Rattle.std.proofs.lemmas.List.{drop_more, drop_all}
 use Rattle.tb_grammar.specs.Grammar.{Tok, Part, Rules}
 use Rattle.tb_grammar.specs.Reading.{read, after, may_end}
 use Rattle.tb_grammar.proofs.ReadLaws.{read-word, read-wrong}
-use Rattle.tb_reading.specs.Calls.{IsFirstWrong}
+use mathlib.Core.Path.{fun_ext}
+use Rattle.tb_reading.specs.Calls.{IsFirstWrong, IsRead}
+use Rattle.tb_reading.specs.View.{part_of, rules_of}
+use Rattle.tb_reading.specs.declared.part.Grammar.{Grammar}
 
 module _ (rules : Rules) (p : Part) (s : List Tok) where
   -- before the token of a place these parts are still to come
@@ -41,3 +44,7 @@ module _ (rules : Rules) (p : Part) (s : List Tok) where
 
     pub wrong-end : may_end ps ≡ false → IsFirstWrong rules p s (Some (length s + 1))
     wrong-end e = wrong-at 0 (length s + 1) (sym read-end ∙ ap (λ b. cond b None (Some 0)) e) (omega arith) (omega arith)
+
+-- whatever rules and part the value is
+pub as-said : (g : Grammar) (s : List Tok) (wrong : Option ℕ) → IsFirstWrong (rules_of g) (part_of g.start.now) s wrong → IsRead g s wrong
+as-said g s wrong is rules p says = rw (fun_ext says.each_rule, says.start_is) at is

@@ -6,8 +6,17 @@ use Rattle.tb_reading.specs.View.{part_of}
 use Rattle.tb_reading.specs.declared.part.Part.{Part, the_lemmas}
 use Rattle.tb_reading.specs.declared.part.Part.TheVariants as part
 
+pub part_of-One : (cs : Bor (List ℕ)) → part_of (part.One cs) ≡ grammar.one cs.now
+part_of-One cs = search (rules, the_lemmas)
+
 pub part_of-Both : (p q : Bor Part) → part_of (part.Both p q) ≡ grammar.both (part_of p.now) (part_of q.now)
 part_of-Both p q = search (rules, the_lemmas)
+
+pub part_of-Either : (p q : Bor Part) → part_of (part.Either p q) ≡ grammar.either (part_of p.now) (part_of q.now)
+part_of-Either p q = search (rules, the_lemmas)
+
+pub part_of-Maybe : (p : Bor Part) → part_of (part.Maybe p) ≡ grammar.maybe (part_of p.now)
+part_of-Maybe p = search (rules, the_lemmas)
 
 pub part_of-Many : (p : Bor Part) → part_of (part.Many p) ≡ grammar.many (part_of p.now)
 part_of-Many p = search (rules, the_lemmas)

@@ -7,6 +7,7 @@ ghost use Rattle.tb_reading.specs.View.{part_of, rules_of};
 ghost use Rattle.tb_reading.specs.Machine.{begins_by};
 
 /// What a rule is made of.
+#[derive(Clone, Copy)]
 pub enum Part<'g> {
     /// One token whose letter is among these.
     One(&'g [u8]),

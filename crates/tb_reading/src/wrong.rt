@@ -1,8 +1,7 @@
 //! Where tokens stop being a word of a grammar.
 
 ghost use Rattle.std.specs.Prelude.{◌≤◌, IfOk, length};
-ghost use Rattle.tb_reading.specs.View.{part_of, rules_of};
-ghost use Rattle.tb_reading.specs.Calls.{IsFirstWrong};
+ghost use Rattle.tb_reading.specs.Calls.{IsRead};
 
 use crate::part::Grammar;
 use crate::stack::{goes_on, may_end};
@@ -17,7 +16,7 @@ pub fn first_wrong(
     tokens: &[Lexeme],
 ) -> Result<Option<u32>, AllocError>
     requires { length tokens.now ≤ 65536 }
-    ensures { IfOk result (IsFirstWrong (rules_of grammar.now) (part_of grammar.now.start.now) tokens.now) }
+    ensures { IfOk result (IsRead grammar.now tokens.now) }
 {
     let mut stack = Vec::new(alloc);
     stack.push(grammar.start)?;

@@ -1,22 +1,25 @@
 -- Each token is taken, or the list is wrong there; and at the end what is left must need no token.
-use Rattle.std.proofs.Common.{sym, ap, ◌∙◌, arith}
+use Rattle.std.proofs.Common.{◌+◌, length, Some, None, sym, ap, ◌∙◌, arith}
 use Rattle.tb_reading.specs.View.{part_of, rules_of}
 use Rattle.tb_reading.specs.Stack.{parts_in}
-use Rattle.tb_reading.proofs.ReadingLaws.{wrong-here, word-end, wrong-end}
+use Rattle.tb_reading.proofs.ReadingLaws.{wrong-here, word-end, wrong-end, as-said}
 use Rattle.tb_reading.proofs.wrong.first_wrong.Goals as goal
 
 pub returns-then-not-branch : goal.returns-then-not-branch
 returns-then-not-branch c =
-    wrong-here (rules_of c.args.grammar.now) (part_of c.args.grammar.now.start.now) c.args.tokens.now c.tokens.at (parts_in c.tokens.stack.items) c.tokens.invariant (omega arith)
+    as-said c.args.grammar.now c.args.tokens.now (Some (c.tokens.at + 1))
+    (wrong-here (rules_of c.args.grammar.now) (part_of c.args.grammar.now.start.now) c.args.tokens.now c.tokens.at (parts_in c.tokens.stack.items) c.tokens.invariant (omega arith)
     c.index-tokens-at.result c.index-tokens-at.is c.token.inside.letter (ap (λ t. t.letter) c.token.view_is)
-    (rw c.if-not-branch.true at c.in_ok-goes_on.ensures)
+    (rw c.if-not-branch.true at c.in_ok-goes_on.ensures))
 
 pub returns-then-may_end : goal.returns-then-may_end
 returns-then-may_end c =
-    word-end (rules_of c.args.grammar.now) (part_of c.args.grammar.now.start.now) c.args.tokens.now c.tokens.at (parts_in c.tokens.stack.items) c.tokens.invariant (omega arith)
-    (sym c.may_end.ensures ∙ c.if-may_end.true)
+    as-said c.args.grammar.now c.args.tokens.now None
+    (word-end (rules_of c.args.grammar.now) (part_of c.args.grammar.now.start.now) c.args.tokens.now c.tokens.at (parts_in c.tokens.stack.items) c.tokens.invariant (omega arith)
+    (sym c.may_end.ensures ∙ c.if-may_end.true))
 
 pub returns : goal.returns
 returns c =
-    wrong-end (rules_of c.args.grammar.now) (part_of c.args.grammar.now.start.now) c.args.tokens.now c.tokens.at (parts_in c.tokens.stack.items) c.tokens.invariant (omega arith)
-    (sym c.may_end.ensures ∙ c.if-may_end.false)
+    as-said c.args.grammar.now c.args.tokens.now (Some (length c.args.tokens.now + 1))
+    (wrong-end (rules_of c.args.grammar.now) (part_of c.args.grammar.now.start.now) c.args.tokens.now c.tokens.at (parts_in c.tokens.stack.items) c.tokens.invariant (omega arith)
+    (sym c.may_end.ensures ∙ c.if-may_end.false))
