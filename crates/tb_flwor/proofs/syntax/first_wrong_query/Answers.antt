@@ -1,0 +1,12 @@
+-- The value is the grammar of queries, part by part.
+use Rattle.tb_reading.proofs.Views.{part_of-One, part_of-Both, part_of-Either, part_of-Maybe, part_of-Many, part_of-Opened}
+use Rattle.tb_flwor.proofs.SyntaxLaws.{says-query}
+use Rattle.tb_flwor.proofs.syntax.first_wrong_query.Goals as goal
+
+pub first_wrong_by-requires-clause-says : goal.first_wrong_by-requires-clause-says
+first_wrong_by-requires-clause-says c =
+    says-query _
+    (simp (part_of-One, part_of-Both, part_of-Either, part_of-Maybe, part_of-Many, part_of-Opened))
+    (simp (part_of-One, part_of-Both, part_of-Either, part_of-Maybe, part_of-Many, part_of-Opened))
+    (simp (part_of-One, part_of-Both, part_of-Either, part_of-Maybe, part_of-Many, part_of-Opened))
+    (λ n. simp part_of-One)

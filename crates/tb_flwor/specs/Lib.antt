@@ -1,0 +1,2 @@
+-- What the reader of queries answers.
+pub mod Calls

@@ -1,0 +1,38 @@
+//! Where tokens stop being a query.
+
+ghost use Rattle.std.specs.Prelude.{◌≤◌, IfOk, length};
+ghost use Rattle.tb_token.specs.Queries.{rules, query};
+ghost use Rattle.tb_reading.specs.Calls.{Says};
+ghost use Rattle.tb_flwor.specs.Calls.{FirstWrong};
+
+use crate::grammar::{CONS_REST, EDGES_REST, NAME, QUERY};
+use std::alloc::{AllocError, Global};
+use tb_reading::{Grammar, first_wrong};
+use tb_token::Lexeme;
+
+/// The number, from 1, of the first token that begins no query with those before it, or one more than
+/// there are. `None` for a query. Brackets and constructors inside each other cost no calls.
+pub fn first_wrong_query(alloc: Global, tokens: &[Lexeme]) -> Result<Option<u32>, AllocError>
+    requires { length tokens.now ≤ 65536 }
+    ensures { IfOk result (FirstWrong tokens.now) }
+{
+    let grammar = Grammar {
+        start: &QUERY,
+        rules: &[&EDGES_REST, &CONS_REST],
+        other: &NAME,
+    };
+    first_wrong_by(alloc, &grammar, tokens)
+}
+
+/// The same by a grammar that is that of queries.
+fn first_wrong_by(
+    alloc: Global,
+    grammar: &Grammar,
+    tokens: &[Lexeme],
+) -> Result<Option<u32>, AllocError>
+    requires short { length tokens.now ≤ 65536 }
+    requires says { Says grammar.now rules query }
+    ensures { IfOk result (FirstWrong tokens.now) }
+{
+    first_wrong(alloc, grammar, tokens)
+}
