@@ -1,7 +1,7 @@
-//! Reading queries: their syntax, of which the rest of a reader will stand on.
+//! Reading queries: their syntax.
 //!
-//! Nothing calls it yet but `tb_deep`. What is proved is that `first_wrong_query` finds the first token
-//! that begins no query with those before it.
+//! Readers of queries are to call it; nothing calls it yet. What is proved is that `first_wrong_query`
+//! finds the first token that begins no query with those before it.
 #![tactic(auto)]
 
 mod grammar;
