@@ -1,5 +1,5 @@
 -- What is read by the value of the grammar is a query.
-use Rattle.std.proofs.Common.{◌≡◌, ℕ, zero, suc, Option, Some, None, List}
+use Rattle.std.proofs.Common.{◌≡◌, ℕ, zero, suc, Option, List}
 use Rattle.std.specs.Prelude.{Result, Ok, Err, IfOk}
 use Rattle.tb_grammar.specs.Grammar.{Tok}
 use Rattle.tb_token.specs.Terminals.{name}
@@ -22,8 +22,7 @@ says-query g start first second others = record { each_rule = each; start_is = s
     each (suc (suc n)) = others n
 
 pub query-read : (g : Grammar) (s : List Tok) (wrong : Option ℕ) → Says g rules query → IsRead g s wrong → FirstWrong s wrong
-query-read g s None says read = read rules query says follow readable.good readable.queries
-query-read g s (Some k) says read = read rules query says follow readable.good readable.queries
+query-read g s wrong says read = read rules query says follow readable.good readable.queries
 
 pub if-read : {E : Type 0} (o : Result (Option ℕ) E) (g : Grammar) (s : List Tok) → IfOk o (IsRead g s) → Says g rules query → IfOk o (FirstWrong s)
 if-read (Ok wrong) g s read says = query-read g s wrong says read

@@ -1,15 +1,10 @@
 -- Whether tokens are a query, and where they are none.
-use Rattle.std.specs.Prelude.{ℕ, List, [], ◌∷◌, Option, Some, None}
+use Rattle.std.specs.Prelude.{ℕ, List, Option}
 use Rattle.tb_grammar.specs.Grammar.{Tok}
-use Rattle.tb_grammar.specs.Words.{AreWord, IsWrongAt}
 use Rattle.tb_token.specs.Queries.{rules, query}
+use Rattle.tb_reading.specs.Calls as reading
 
--- the tokens are a query
-abbrev pub AreQuery : List Tok → Type 0
-AreQuery s = AreWord rules (query ∷ []) s
-
--- the least number k for which the first k tokens begin no query, or one more than there are; none
--- where they are one
+-- none where the tokens are a query; else the least number k for which the first k tokens begin no
+-- query, or one more than there are
 abbrev pub FirstWrong : List Tok → Option ℕ → Type 0
-FirstWrong s None = AreQuery s
-FirstWrong s (Some k) = IsWrongAt rules (query ∷ []) s k
+FirstWrong s wrong = reading.FirstWrong rules query s wrong

@@ -1,7 +1,10 @@
-//! The grammar of queries as a value.
+//! The grammar of queries as a value, production by production as docs/FORMATS.md has it but for
+//! `path`. Letters are those that `Lexeme` of `tb_token` tells; a contract holds each against the
+//! grammar there.
 
 use tb_reading::Part;
 
+// NAME, or any word in its place
 pub const NAME: Part = Part::One(&[
     0, 64, 65, 66, 67, 68, 69, 70, 71, 72, 73, 74, 75, 76, 77, 78, 79, 80, 81, 82,
 ]);
@@ -82,19 +85,25 @@ const AGG: Part = Part::One(&[79, 80, 81, 82]);
 
 const DIRECTION: Part = Part::One(&[74, 75]);
 
+// doc = DOCUMENT "(" STRING ")"
 const DOC: Part = Part::Both(&DOCUMENT, &Part::Both(&OPEN, &Part::Both(&STRING, &CLOSE)));
 
+// "@" ( NAME | "*" )
 const ATTRIBUTE: Part = Part::Both(&AT, &Part::Either(&NAME, &STAR));
 
+// test = NAME | "*" | "@" ( NAME | "*" ) | TEXT
 const TEST: Part = Part::Either(
     &NAME,
     &Part::Either(&STAR, &Part::Either(&ATTRIBUTE, &TEXT)),
 );
 
+// literal = STRING | [ "-" ] NUMBER
 const LITERAL: Part = Part::Either(&STRING, &Part::Both(&Part::Maybe(&MINUS), &NUMBER));
 
+// cmp literal
 const ONE_COND: Part = Part::Both(&CMP, &LITERAL);
 
+// conds = "[" cmp literal { AND cmp literal } "]"
 const CONDS: Part = Part::Both(
     &OPEN_CONDS,
     &Part::Both(
@@ -103,8 +112,10 @@ const CONDS: Part = Part::Both(
     ),
 );
 
+// edges = "(" and the rest of the edges, which is rule 0
 const EDGES: Part = Part::Opened(&[20], 0);
 
+// edge = axis mark test [ conds ] [ "!" ] [ edges ]
 const EDGE: Part = Part::Both(
     &AXIS,
     &Part::Both(
@@ -119,29 +130,37 @@ const EDGE: Part = Part::Both(
     ),
 );
 
+// edge { "," edge } ")"
 pub const EDGES_REST: Part = Part::Both(
     &Part::Both(&EDGE, &Part::Many(&Part::Both(&COMMA, &EDGE))),
     &CLOSE,
 );
 
+// match = MATCH doc edges
 const MATCH_QUERY: Part = Part::Both(&MATCH, &Part::Both(&DOC, &EDGES));
 
+// step = axis test
 const STEP: Part = Part::Both(&AXIS, &TEST);
 
+// step { step }
 const STEPS: Part = Part::Both(&STEP, &Part::Many(&STEP));
 
+// longpath = ( doc | VARIABLE ) step { step }
 const LONGPATH: Part = Part::Both(&Part::Either(&DOC, &VARIABLE), &STEPS);
 
+// path = doc step { step } | VARIABLE { step }
 const PATH: Part = Part::Either(
     &Part::Both(&DOC, &STEPS),
     &Part::Both(&VARIABLE, &Part::Many(&STEP)),
 );
 
+// operand = path | agg "(" path ")"
 const OPERAND: Part = Part::Either(
     &PATH,
     &Part::Both(&AGG, &Part::Both(&OPEN, &Part::Both(&PATH, &CLOSE))),
 );
 
+// bind = VARIABLE [ ALLOWING EMPTY ] IN longpath
 const BIND: Part = Part::Both(
     &VARIABLE,
     &Part::Both(
@@ -150,6 +169,7 @@ const BIND: Part = Part::Both(
     ),
 );
 
+// clause = FOR bind { "," bind } | LET VARIABLE ":=" longpath
 const CLAUSE: Part = Part::Either(
     &Part::Both(
         &FOR,
@@ -161,23 +181,28 @@ const CLAUSE: Part = Part::Either(
     ),
 );
 
+// cond = operand cmp ( operand | literal )
 const COND: Part = Part::Both(
     &OPERAND,
     &Part::Both(&CMP, &Part::Either(&OPERAND, &LITERAL)),
 );
 
+// where = WHERE cond { AND cond }
 const WHERE_PART: Part = Part::Both(
     &WHERE,
     &Part::Both(&COND, &Part::Many(&Part::Both(&AND, &COND))),
 );
 
+// group = GROUP BY VARIABLE ":=" path
 const GROUP_PART: Part = Part::Both(
     &GROUP,
     &Part::Both(&BY, &Part::Both(&VARIABLE, &Part::Both(&ASSIGN, &PATH))),
 );
 
+// key = operand [ ASCENDING | DESCENDING ]
 const KEY: Part = Part::Both(&OPERAND, &Part::Maybe(&DIRECTION));
 
+// order = ORDER BY key { "," key }
 const ORDER_PART: Part = Part::Both(
     &ORDER,
     &Part::Both(
@@ -186,14 +211,19 @@ const ORDER_PART: Part = Part::Both(
     ),
 );
 
+// cons = "<" and the rest of the constructor, which is rule 1
 const CONS: Part = Part::Opened(&[13], 1);
 
+// "{" operand "}"
 const BRACED: Part = Part::Both(&OPEN_BRACE, &Part::Both(&OPERAND, &CLOSE_BRACE));
 
+// attr = NAME "=" ( STRING | "{" operand "}" )
 const ATTR: Part = Part::Both(&NAME, &Part::Both(&EQUAL, &Part::Either(&STRING, &BRACED)));
 
+// piece = cons | STRING | "{" operand "}"
 const PIECE: Part = Part::Either(&CONS, &Part::Either(&STRING, &BRACED));
 
+// NAME { attr } ( "/>" | ">" { piece } "</" NAME ">" )
 pub const CONS_REST: Part = Part::Both(
     &NAME,
     &Part::Both(
@@ -211,8 +241,10 @@ pub const CONS_REST: Part = Part::Both(
     ),
 );
 
+// back = path | cons
 const BACK: Part = Part::Either(&PATH, &CONS);
 
+// flwor = clause { clause } [ where ] [ group ] [ order ] RETURN back
 const FLWOR: Part = Part::Both(
     &CLAUSE,
     &Part::Both(
@@ -227,4 +259,5 @@ const FLWOR: Part = Part::Both(
     ),
 );
 
+// query = match | flwor
 pub const QUERY: Part = Part::Either(&MATCH_QUERY, &FLWOR);
