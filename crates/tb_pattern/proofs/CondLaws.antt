@@ -135,7 +135,7 @@ literal-plain (t ∷ u) e f ps come =
 -- Conditions.
 
 -- no comparison is a `-`
-cmp-minus : (x : ℕ) → has cmp_letters x ≡ true → is_sign (codes "-") x ≡ false
+pub cmp-minus : (x : ℕ) → has cmp_letters x ≡ true → is_sign (codes "-") x ≡ false
 cmp-minus x h = by (is_sign (codes "-") x) refl
   where
     by : (is : Bool) → is_sign (codes "-") x ≡ is → is ≡ false

@@ -28,7 +28,7 @@ nests_past depth [] = false
 nests_past depth (x ∷ xs) =
     let behind = open_behind depth x in nat_lt 32 behind || nests_past behind xs
 
--- how many tests are written: each stands behind an axis and a mark
+-- how many tests are written: each has an axis before it, and in a pattern a mark between
 abbrev pub tests_in : List ℕ → ℕ
 tests_in [] = 0
 tests_in (x ∷ xs) = if has axis_letters x then 1 + tests_in xs else tests_in xs

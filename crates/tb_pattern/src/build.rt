@@ -11,11 +11,11 @@ ghost use Rattle.tb_pattern.specs.BuiltParts.{AreEdges, AreBelow, IsEdge, IsWhol
 
 use crate::conds::conds;
 use crate::front::{axis, begins, behind, mark, quoted};
-use crate::letter::{BANG, COMMA, OPEN};
 use crate::node_test::test;
 use crate::{Edge, PNode, Pattern};
 use std::alloc::{AllocError, Global};
 use tb_token::Lexeme;
+use tb_token::letters::{BANG, COMMA, OPEN};
 use tb_tree::Items;
 
 /// MATCH DOCUMENT "(" STRING ")" "(" edge { "," edge } ")"

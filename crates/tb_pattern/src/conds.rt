@@ -9,11 +9,11 @@ ghost use Rattle.tb_pattern.specs.Value.{bytes_in};
 ghost use Rattle.tb_token.specs.Patterns as part;
 
 use crate::front::{begins, behind, bytes, op, quoted};
-use crate::letter::{AND, MINUS, OPEN_CONDS, QUOTED};
 use crate::limits::literal_in;
 use crate::{Cond, Literal};
 use std::alloc::{AllocError, Global};
 use tb_token::Lexeme;
+use tb_token::letters::{AND, MINUS, OPEN_CONDS, QUOTED};
 use tb_tree::Items;
 
 /// [ "[" cond { AND cond } "]" ]
@@ -57,7 +57,7 @@ fn cond<'t, 'a>(
 }
 
 /// STRING | [ "-" ] NUMBER
-fn literal<'t, 'a>(
+pub fn literal<'t, 'a>(
     alloc: Global,
     tokens: &'t [Lexeme<'a>],
 ) -> Result<(Literal, &'t [Lexeme<'a>]), AllocError>

@@ -6,14 +6,15 @@ ghost use Rattle.tb_pattern.specs.Letters.{name_letters};
 ghost use Rattle.tb_pattern.specs.Value as value;
 
 use crate::Mark;
-use crate::letter::{
-    DOUBLE_SLASH, GREATER, GREATER_OR_EQUAL, LESS, LESS_OR_EQUAL, NOT_EQUAL, PLUS, QUESTION, STAR,
-    has, is_name,
-};
+use crate::letter::is_name;
 use std::alloc::{AllocError, Global};
 use tb_number::CmpOp;
 use tb_span::Axis;
 use tb_token::Lexeme;
+use tb_token::letters::{
+    DOUBLE_SLASH, GREATER, GREATER_OR_EQUAL, LESS, LESS_OR_EQUAL, NOT_EQUAL, PLUS, QUESTION, STAR,
+    has,
+};
 use tb_tree::Bytes;
 
 /// Whether the next token's letter is among these.

@@ -5,15 +5,15 @@
 //! that a copy of a pattern is the same.
 #![tactic(auto)]
 
-mod build;
+pub mod build;
 mod check;
 mod cond;
-mod conds;
+pub mod conds;
 mod fault;
-mod front;
+pub mod front;
 mod letter;
-mod limits;
-mod node_test;
+pub mod limits;
+pub mod node_test;
 mod pattern;
 mod query;
 mod reading;

@@ -4,10 +4,10 @@ ghost use Rattle.std.specs.Prelude.{◌≡◌, ◌≤◌, IfOk, length};
 ghost use Rattle.tb_pattern.specs.Faults.{open_behind, is_too_nested, tests_of};
 ghost use Rattle.tb_pattern.specs.Faults.{literal_in, is_past, first_past};
 
-use crate::letter::{CLOSE, DOUBLE_SLASH, MINUS, NUMBER, OPEN, SLASH, has};
 use std::alloc::{AllocError, Global};
 use tb_number::IntText;
 use tb_token::Lexeme;
+use tb_token::letters::{CLOSE, DOUBLE_SLASH, MINUS, NUMBER, OPEN, SLASH, has};
 
 /// Whether more than 32 brackets are open somewhere.
 pub fn is_too_nested(tokens: &[Lexeme]) -> bool

@@ -7,9 +7,9 @@ ghost use Rattle.tb_pattern.specs.Value.{bytes_in};
 ghost use Rattle.tb_token.specs.Patterns as part;
 
 use crate::front::{begins, begins_name, behind, bytes};
-use crate::letter::{AT, STAR};
 use std::alloc::{AllocError, Global};
 use tb_token::Lexeme;
+use tb_token::letters::{AT, STAR};
 use tb_tree::{Bytes, Test};
 
 /// NAME | "*" | "@" ( NAME | "*" ) | TEXT

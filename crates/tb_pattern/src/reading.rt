@@ -3,10 +3,11 @@
 ghost use Rattle.std.specs.Prelude.{◌≡◌, ◌≤◌, ◌<◌, ◌+◌, ◌^◌, IfSome};
 ghost use Rattle.tb_pattern.specs.Reading as next;
 
-use crate::letter::{
+use crate::letter::is_name;
+use tb_token::letters::{
     AND, AT, BANG, CLOSE, CLOSE_CONDS, COMMA, DOCUMENT, DOUBLE_SLASH, EQUAL, GREATER,
     GREATER_OR_EQUAL, LESS, LESS_OR_EQUAL, MATCH, MINUS, NOT_EQUAL, NUMBER, OPEN, OPEN_CONDS, PLUS,
-    QUESTION, QUOTED, SLASH, STAR, TEXT_TEST, has, is_name,
+    QUESTION, QUOTED, SLASH, STAR, TEXT_TEST, has,
 };
 
 /// What may come next.

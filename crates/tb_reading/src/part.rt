@@ -1,10 +1,11 @@
 //! Grammars as data.
 
 ghost use Rattle.std.specs.Prelude.{◌≡◌};
-ghost use Rattle.tb_grammar.specs.Grammar.{has};
 ghost use Rattle.tb_grammar.specs.Reading.{is_filled};
 ghost use Rattle.tb_reading.specs.View.{part_of, rules_of};
 ghost use Rattle.tb_reading.specs.Machine.{begins_by};
+
+use tb_token::letters::has;
 
 /// What a rule is made of.
 #[derive(Clone, Copy)]
@@ -43,13 +44,6 @@ impl<'g> Grammar<'g> {
         }
         self.other
     }
-}
-
-/// Whether the letter is among these.
-pub fn has(letters: &[u8], letter: u8) -> bool
-    ensures { result ≡ has letters.now letter }
-{
-    letters.contains(&letter)
 }
 
 /// Whether the part begins with the letter, or what is behind it does, where it may be empty.

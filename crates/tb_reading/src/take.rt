@@ -6,8 +6,9 @@ ghost use Rattle.tb_reading.specs.Machine.{step};
 ghost use Rattle.tb_reading.specs.declared.take.Took.TheVariants.{Taken, Stuck};
 ghost use Rattle.tb_reading.specs.Stack.{HasTaken, is_passed, of_more};
 
-use crate::part::{Grammar, Part, begins, has};
+use crate::part::{Grammar, Part, begins};
 use std::alloc::AllocError;
+use tb_token::letters::has;
 
 /// What a part did with a letter.
 #[derive(Clone, Copy, Debug, PartialEq, Eq)]

@@ -11,6 +11,7 @@ mod cut;
 mod fault;
 mod front;
 mod letter;
+pub mod letters;
 mod lexeme;
 mod names;
 mod query_laws;

@@ -1,7 +1,7 @@
 use Rattle.std.proofs.Common.{◌≡◌, ℕ, ◌==◌, ◌||◌, List, [], ◌∷◌, refl, ap, ◌∙◌}
 use Rattle.std.specs.List.{list_any}
 use Rattle.tb_grammar.specs.Grammar.{has}
-use Rattle.tb_pattern.proofs.letter.has.Goals as goal
+use Rattle.tb_token.proofs.letters.has.Goals as goal
 
 has-any : (cs : List ℕ) (x : ℕ) → list_any (λ c. c == x) cs ≡ has cs x
 has-any [] x = refl
