@@ -1,0 +1,4 @@
+pub mod NameLaws
+pub mod AttributeLaws
+pub mod VariableRows
+pub mod ConstructorRows
