@@ -1,1 +1,15 @@
+pub mod RunLaws
+pub mod PathLaws
+pub mod OperandLaws
+pub mod ClauseLaws
+pub mod CondLaws
+pub mod OrderLaws
+pub mod Views
+pub mod ConsLaws
+pub mod FlworLaws
+pub mod FaultLaws
+pub mod QueryBuilding
+pub mod OneQuery
+pub mod ValueRows
+pub mod WorkedRows
 pub mod SyntaxLaws

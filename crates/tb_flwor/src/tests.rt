@@ -6,6 +6,12 @@ use std::alloc::{AllocError, Global};
 use std::test::Fail;
 use tb_token::{lexemes, tokens};
 
+mod faults;
+mod limits;
+mod neighbours;
+mod told;
+mod values;
+
 // The number of the wrong token, or 0 for a query.
 fn wrong_in(alloc: Global, text: &[u8]) -> Result<u32, AllocError> {
     if text.len() > 65_536 {

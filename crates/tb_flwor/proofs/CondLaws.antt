@@ -1,0 +1,140 @@
+-- Conditions are built one after the other, and each from its operands.
+use Rattle.std.proofs.Common.{◌≡◌, ℕ, Bool, true, false, ◌≤◌, List, [], ◌∷◌, ◌++◌, length, drop, refl, sym, ap, ◌∙◌, append_assoc, append-nil, arith, length-drop}
+use Rattle.std.specs.Prelude.{codes}
+use Rattle.tb_grammar.specs.Grammar.{Tok, Part, both, either, maybe, many, has}
+use Rattle.tb_grammar.specs.Words.{Tree, leaf, nothing, pair, second, by_one, by_both, by_second}
+use Rattle.tb_grammar.specs.Reading.{own_starts}
+use Rattle.tb_grammar.proofs.PlaceLaws.{read-both, read-second, read-one}
+use Rattle.tb_token.specs.Letters.{letter_of}
+use Rattle.tb_token.specs.Terminals.{word, list_of}
+use Rattle.tb_token.specs.Patterns.{cmp, literal}
+use Rattle.tb_token.specs.Paths.{operand}
+use Rattle.tb_token.specs.Queries.{rules, cond, where_part}
+use Rattle.tb_token.specs.declared.token.Kind.TheVariants as kind
+use Rattle.tb_pattern.specs.Letters.{cmp_letters}
+use Rattle.tb_pattern.specs.Value.{op_of}
+use Rattle.tb_pattern.specs.Building.{next, begins, Come, IsBuilt, Builds, BuildsApart}
+use Rattle.tb_pattern.specs.BuiltParts.{IsLiteral}
+use Rattle.tb_pattern.proofs.BuildingLaws.{some-none, come-next, come-as, wrong-letter, one-builds, Both, both-builds, builds-as, put_in-builds, left_out-builds, First, first-builds}
+use Rattle.tb_pattern.proofs.CondLaws.{cmp-minus}
+use Rattle.tb_pattern.specs.declared.cond.Literal.{Literal}
+use Rattle.tb_query.specs.declared.operand.Comparison.{Comparison}
+use Rattle.tb_query.specs.declared.operand.Operand.{Operand}
+use Rattle.tb_query.specs.declared.operand.Right.{Right}
+use Rattle.tb_query.specs.declared.operand.Right.TheVariants as right
+use Rattle.tb_flwor.specs.Value.{Names, right_of, cond_from, more_conds, conds_of}
+use Rattle.tb_flwor.specs.Built.{Gives, IsOperand, IsRight, AreConds}
+use Rattle.tb_flwor.proofs.RunLaws.{SoFar, far-start, far-next, run-end, behind-builds}
+
+abbrev Next : List Tok → Tree → Type 0
+Next s v = v ≡ next s
+
+abbrev operand_letters : List ℕ
+operand_letters = own_starts operand
+
+module _ (names : Names) where
+  pub right-operand : (is : Operand) (s left : List Tok) → begins operand_letters s ≡ true → Builds operand (IsOperand names is) s left
+      → BuildsApart (either operand literal) (IsRight names (right.Operand is)) s left
+  right-operand is s left e operand_is ps come =
+      builds-as (either operand literal) (First (IsOperand names is)) (IsRight names (right.Operand is)) s left
+      (λ v f. ap (right_of names) f.first_is ∙ ap right.Operand f.one_is)
+      (first-builds operand literal (IsOperand names is) s left e operand_is) ps false come
+
+  pub right-literal : (is : Literal) (s left : List Tok) → begins operand_letters s ≡ false → BuildsApart literal (IsLiteral is) s left
+      → BuildsApart (either operand literal) (IsRight names (right.Literal is)) s left
+  right-literal is [] left e literal_is ps come = some-none come.parts
+  right-literal is (t ∷ u) left e literal_is ps come =
+      let b = literal_is ps (come-as false (either operand literal ∷ ps) (literal ∷ ps) (t ∷ u) (read-second rules operand literal t u ps e) come) in
+      record {
+        minus = b.minus;
+        behind = b.behind;
+        tree = second b.tree;
+        is = ap right.Literal b.is;
+        derived = λ vs d. by_second (b.derived vs d);
+      }
+
+  -- cmp ( operand | literal )
+
+  abbrev with : Part
+  with = both cmp (either operand literal)
+
+  abbrev Compared : List Tok → Right → Tree → Type 0
+  Compared mid is = Both (Next mid) (IsRight names is)
+
+  with-builds : (is : Right) (s left : List Tok) → BuildsApart (either operand literal) (IsRight names is) (drop 1 s) left → Builds with (Compared s is) s left
+  with-builds is [] left right_is ps minus come = some-none come.parts
+  with-builds is (t ∷ u) left right_is ps minus come = by (has cmp_letters t.letter) refl
+    where
+      by : (here : Bool) → has cmp_letters t.letter ≡ here → IsBuilt with (Compared (t ∷ u) is) ps (t ∷ u) left
+      by true h =
+          let reads = read-both rules cmp (either operand literal) (t ∷ u) ps ∙ read-one rules cmp_letters t u (either operand literal ∷ ps) h in
+          let behind = come-next minus (with ∷ ps) (either operand literal ∷ ps) t u come reads in
+          let apart : Come false (either operand literal ∷ ps) u = rw (cmp-minus t.letter h) at behind in
+          let b = right_is ps apart in
+          record {
+            minus = b.minus;
+            behind = b.behind;
+            tree = pair (leaf t) b.tree;
+            is = record { one = leaf t; two = b.tree; pair_is = refl; one_is = refl; two_is = b.is };
+            derived = λ vs d. by_both (by_one h (b.derived vs d));
+          }
+      by false h = wrong-letter cmp_letters t u (either operand literal ∷ ps) h (sym (read-both rules cmp (either operand literal) (t ∷ u) ps) ∙ come.parts)
+
+  -- a comparison of these
+  abbrev compared : Operand → List Tok → Right → Comparison
+  compared l mid r = record { left = l; op = op_of (next mid); right = r }
+
+  pub cond-builds : (l : Operand) (r : Right) (s mid left : List Tok) → Builds operand (IsOperand names l) s mid
+      → BuildsApart (either operand literal) (IsRight names r) (drop 1 mid) left → Builds cond (Gives (cond_from names) (compared l mid r)) s left
+  cond-builds l r s mid left operand_is right_is =
+      builds-as cond (Both (IsOperand names l) (Compared mid r)) (Gives (cond_from names) (compared l mid r)) s left
+      (λ v b behind.
+      ap (λ x. cond_from names x behind) (b.pair_is ∙ ap (λ x. pair b.one x) b.two_is.pair_is) ∙ rw (b.one_is, b.two_is.one_is, b.two_is.two_is) refl)
+      (both-builds operand with (IsOperand names l) (Compared mid r) s mid left operand_is (with-builds r mid left right_is))
+
+  -- Conditions behind the word WHERE.
+
+  abbrev and_letter : List ℕ
+  and_letter = letter_of kind.Word (codes "AND") ∷ []
+
+  abbrev where_letter : List ℕ
+  where_letter = letter_of kind.Word (codes "WHERE") ∷ []
+
+  abbrev other_cond : Part
+  other_cond = both (word (codes "AND")) cond
+
+  abbrev put : List Comparison → List Comparison → List Comparison
+  put found behind = found ++ behind
+
+  abbrev pub CondsSoFar : List Comparison → List Comparison → List Tok → List Tok → Type 0
+  CondsSoFar = SoFar other_cond put (more_conds names)
+
+  pub conds-start : (old : List Comparison) (s : List Tok) → CondsSoFar old old s s
+  conds-start old s = far-start other_cond put (more_conds names) old s
+
+  pub conds-next : (old found : List Comparison) (is : Comparison) (s mid left : List Tok) → begins and_letter mid ≡ true → CondsSoFar old found s mid
+      → Builds cond (Gives (cond_from names) is) (drop 1 mid) left → length left ≤ length (drop 1 mid) → CondsSoFar old (found ++ is ∷ []) s left
+  conds-next old found is s mid left e far gives shorter =
+      far-next other_cond put (more_conds names) old found (found ++ is ∷ []) s mid left refl e far
+      (behind-builds and_letter cond (Gives (cond_from names) is) (λ v. (w : Tree) → found ++ more_conds names (pair v w) ≡ (found ++ is ∷ []) ++ more_conds names w) mid left
+      (λ a v g w. ap (λ x. found ++ x) (g (more_conds names w)) ∙ sym (append_assoc found (is ∷ []) (more_conds names w))) gives)
+      (omega (arith, length-drop 1 mid))
+
+  module _ (is : Comparison) (found : List Comparison) (s mid left : List Tok) where
+    abbrev Listed : Tree → Type 0
+    Listed = Both (Gives (cond_from names) is) (λ v. is ∷ more_conds names v ≡ found ++ [])
+
+    pub conds-end : begins where_letter s ≡ true → begins and_letter left ≡ false → Builds cond (Gives (cond_from names) is) (drop 1 s) mid
+        → CondsSoFar (is ∷ []) found mid left → Builds (maybe where_part) (AreConds names found) s left
+    conds-end e f gives far =
+        put_in-builds where_part (AreConds names found) s left e
+        (builds-as where_part (Both (Next s) Listed) (AreConds names found) s left
+        (λ v b.
+        let l = b.two_is in
+        ap (conds_of names) (b.pair_is ∙ ap (λ x. pair b.one x) l.pair_is) ∙ l.one_is (more_conds names l.two) ∙ l.two_is ∙ append-nil found)
+        (both-builds (word (codes "WHERE")) (list_of (word (codes "AND")) cond) (Next s) Listed s (drop 1 s) left (one-builds where_letter s)
+        (both-builds cond (many other_cond) (Gives (cond_from names) is) (λ v. is ∷ more_conds names v ≡ found ++ []) (drop 1 s) mid left gives
+        (run-end other_cond put (more_conds names) (is ∷ []) found mid left f far.built))))
+
+  pub conds-none : (s : List Tok) → begins where_letter s ≡ false → Builds (maybe where_part) (AreConds names []) s s
+  conds-none s e = builds-as (maybe where_part) (λ v. v ≡ nothing) (AreConds names []) s s (λ v f. ap (conds_of names) f) (left_out-builds where_part s e)

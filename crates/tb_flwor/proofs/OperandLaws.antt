@@ -1,0 +1,87 @@
+-- Operands are built from their paths.
+use Rattle.std.proofs.Common.{◌≡◌, ℕ, true, false, List, [], ◌∷◌, drop, refl, ap, ◌∙◌}
+use Rattle.std.specs.Prelude.{codes}
+use Rattle.tb_grammar.specs.Grammar.{Tok, Part, both, either}
+use Rattle.tb_grammar.specs.Words.{Tree, pair, second}
+use Rattle.tb_token.specs.Letters.{letter_of}
+use Rattle.tb_token.specs.Terminals.{sign, string}
+use Rattle.tb_token.specs.Paths.{agg, operand, path}
+use Rattle.tb_token.specs.Results.{braced}
+use Rattle.tb_token.specs.declared.token.Kind.TheVariants as kind
+use Rattle.tb_pattern.specs.Value.{bytes_in, inside}
+use Rattle.tb_pattern.specs.Building.{next, begins, Builds}
+use Rattle.tb_pattern.proofs.BuildingLaws.{one-builds, Both, both-builds, builds-as, First, Second, first-builds, second-builds}
+use Rattle.tb_query.specs.declared.back.Content.TheVariants as content
+use Rattle.tb_query.specs.declared.operand.Operand.{Operand}
+use Rattle.tb_query.specs.declared.operand.Operand.TheVariants as operand
+use Rattle.tb_query.specs.declared.path.Path.{Path}
+use Rattle.tb_flwor.specs.Value.{Names, agg_of, operand_of}
+use Rattle.tb_flwor.specs.Results.{braced_of, content_of}
+use Rattle.tb_flwor.specs.Built.{IsPath, IsOperand, IsBraced, IsContent}
+
+abbrev Next : List Tok → Tree → Type 0
+Next s v = v ≡ next s
+
+abbrev letter : List ℕ → List ℕ
+letter text = letter_of kind.Sign text ∷ []
+
+abbrev path_letters : List ℕ
+path_letters = letter_of kind.Word (codes "DOCUMENT") ∷ letter_of kind.Variable [] ∷ []
+
+abbrev agg_letters : List ℕ
+agg_letters =
+    letter_of kind.Word (codes "COUNT") ∷ letter_of kind.Word (codes "SUM") ∷ letter_of kind.Word (codes "MIN")
+    ∷ letter_of kind.Word (codes "MAX") ∷ []
+
+abbrev quote_letter : List ℕ
+quote_letter = letter_of kind.Quoted [] ∷ []
+
+module _ (names : Names) (s left : List Tok) where
+  abbrev closed : Part
+  closed = both path (sign (codes ")"))
+
+  abbrev taken : Part
+  taken = both agg (both (sign (codes "(")) closed)
+
+  pub operand-nodes : (is : Path) → begins path_letters s ≡ true → Builds path (IsPath names is) s left → Builds operand (IsOperand names (operand.Nodes is)) s left
+  operand-nodes is e path_is =
+      builds-as operand (First (IsPath names is)) (IsOperand names (operand.Nodes is)) s left
+      (λ v f. ap (operand_of names) f.first_is ∙ ap operand.Nodes f.one_is)
+      (first-builds path taken (IsPath names is) s left e path_is)
+
+  abbrev Inside : Path → Tree → Type 0
+  Inside is = Both (Next s) (Both (Next (drop 1 s)) (Both (IsPath names is) (Next left)))
+
+  pub operand-agg : (is : Path) → begins path_letters s ≡ false → Builds path (IsPath names is) (drop 1 (drop 1 s)) left
+      → Builds operand (IsOperand names (operand.Agg (agg_of (next s)) is)) s (drop 1 left)
+  operand-agg is e path_is =
+      builds-as operand (Second (Inside is)) (IsOperand names (operand.Agg (agg_of (next s)) is)) s (drop 1 left)
+      (λ v f.
+      let b = f.two_is in
+      ap (operand_of names) (f.second_is ∙ ap second (b.pair_is ∙ ap (λ x. pair b.one x) (b.two_is.pair_is ∙ ap (λ x. pair b.two_is.one x) b.two_is.two_is.pair_is)))
+      ∙ rw (b.one_is, b.two_is.two_is.one_is) refl)
+      (second-builds path taken (Inside is) s (drop 1 left) refl e
+      (both-builds agg (both (sign (codes "(")) closed) (Next s) (Both (Next (drop 1 s)) (Both (IsPath names is) (Next left))) s (drop 1 s) (drop 1 left) (one-builds agg_letters s)
+      (both-builds (sign (codes "(")) closed (Next (drop 1 s)) (Both (IsPath names is) (Next left)) (drop 1 s) (drop 1 (drop 1 s)) (drop 1 left) (one-builds (letter (codes "(")) (drop 1 s))
+      (both-builds path (sign (codes ")")) (IsPath names is) (Next left) (drop 1 (drop 1 s)) left (drop 1 left) path_is (one-builds (letter (codes ")")) left)))))
+
+  braced-builds : (is : Operand) → Builds operand (IsOperand names is) (drop 1 s) left → Builds braced (IsBraced names (content.Operand is)) s (drop 1 left)
+  braced-builds is operand_is =
+      builds-as braced (Both (Next s) (Both (IsOperand names is) (Next left))) (IsBraced names (content.Operand is)) s (drop 1 left)
+      (λ v b. ap (braced_of names) (b.pair_is ∙ ap (λ x. pair b.one x) b.two_is.pair_is) ∙ ap content.Operand b.two_is.one_is)
+      (both-builds (sign (codes "{")) (both operand (sign (codes "}"))) (Next s) (Both (IsOperand names is) (Next left)) s (drop 1 s) (drop 1 left) (one-builds (letter (codes "{")) s)
+      (both-builds operand (sign (codes "}")) (IsOperand names is) (Next left) (drop 1 s) left (drop 1 left) operand_is (one-builds (letter (codes "}")) left)))
+
+  pub content-operand : (is : Operand) → begins quote_letter s ≡ false → Builds operand (IsOperand names is) (drop 1 s) left
+      → Builds (either string braced) (IsContent names (content.Operand is)) s (drop 1 left)
+  content-operand is e operand_is =
+      builds-as (either string braced) (Second (IsBraced names (content.Operand is))) (IsContent names (content.Operand is)) s (drop 1 left)
+      (λ v f. ap (content_of names) f.second_is ∙ f.two_is)
+      (second-builds string braced (IsBraced names (content.Operand is)) s (drop 1 left) refl e (braced-builds is operand_is))
+
+pub content-text : (names : Names) (s : List Tok) → begins quote_letter s ≡ true
+    → Builds (either string braced) (IsContent names (content.Text (inside (bytes_in (next s))))) s (drop 1 s)
+content-text names s e =
+    builds-as (either string braced) (First (Next s)) (IsContent names (content.Text (inside (bytes_in (next s))))) s (drop 1 s)
+    (λ v f. ap (content_of names) f.first_is ∙ ap (λ x. content.Text (inside (bytes_in x))) f.one_is)
+    (first-builds string braced (Next s) s (drop 1 s) e (one-builds quote_letter s))

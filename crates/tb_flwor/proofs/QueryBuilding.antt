@@ -1,0 +1,64 @@
+-- A whole query is built by its first token.
+use Rattle.std.proofs.Common.{◌≡◌, ℕ, true, false, ◌||◌, ◌==◌, List, [], ◌∷◌, Option, Some, None, refl, sym, ◌∙◌, arith}
+use Rattle.std.specs.Prelude.{codes}
+use Rattle.tb_grammar.specs.Grammar.{Tok, has}
+use Rattle.tb_grammar.specs.Words.{Derives, at_end, by_first, by_second}
+use Rattle.tb_grammar.specs.Reading.{own_starts, read}
+use Rattle.tb_grammar.proofs.PlaceLaws.{read-first, read-second}
+use Rattle.tb_grammar.proofs.ReadLaws.{read-wrong}
+use Rattle.tb_token.specs.Letters.{letter_of, HaveDigits}
+use Rattle.tb_token.specs.Patterns.{match_query}
+use Rattle.tb_token.specs.Queries.{rules, follow, query, flwor}
+use Rattle.tb_token.proofs.QueryLaws.{readable}
+use Rattle.tb_token.specs.declared.token.Kind.TheVariants.{Word}
+use Rattle.tb_pattern.specs.BuiltParts as pattern
+use Rattle.tb_pattern.specs.Building.{Come, Builds}
+use Rattle.tb_pattern.proofs.BuildingLaws.{some-none, false-true, come-as}
+use Rattle.tb_pattern.specs.declared.pattern.Pattern.{Pattern}
+use Rattle.tb_query.specs.declared.query.Flwor as flwor
+use Rattle.tb_query.specs.declared.query.Query.TheVariants.{Match, Flwor}
+use Rattle.tb_scope.specs.Variables.{is_match, clauses_in, bound}
+use Rattle.tb_flwor.specs.Value.{Names}
+use Rattle.tb_flwor.specs.Asked.{IsFlwor}
+use Rattle.tb_flwor.specs.Faults.{AreQuery, first_fault}
+use Rattle.tb_flwor.specs.Built.{Asks}
+use Rattle.tb_flwor.proofs.FaultLaws.{numbers-none}
+
+-- the query comes next where the tokens are one without fault
+
+read-query : (s : List Tok) → AreQuery s → read rules s (Some (query ∷ [])) ≡ None
+read-query s is = by (read rules s (Some (query ∷ []))) refl
+  where
+    by : (o : Option ℕ) → read rules s (Some (query ∷ [])) ≡ o → o ≡ None
+    by None e = refl
+    by (Some n) e = absurd ((read-wrong rules follow readable.good s (query ∷ []) n readable.queries e).none is)
+
+pub query-comes : (s : List Tok) → AreQuery s → first_fault s ≡ None → HaveDigits s → Come false (query ∷ []) s
+query-comes s is fine digits = record { parts = read-query s is; digits = digits; numbers = numbers-none s fine }
+
+swapped : (x y : ℕ) → (x == y) ≡ (y == x || false)
+swapped x y = grind arith
+
+-- the word MATCH is the first token of a `MATCH` query, and of no other
+match-starts : (t : Tok) (u : List Tok) → is_match (t ∷ u) ≡ has (own_starts match_query) t.letter
+match-starts t u = swapped t.letter (letter_of Word (codes "MATCH"))
+
+pub match-asks : (s : List Tok) (p : Pattern) → is_match s ≡ true → pattern.Asks s p → Asks s (Match p)
+match-asks [] p e asks come = false-true e
+match-asks (t ∷ u) p e asks come =
+    let a = asks (come-as false (query ∷ []) (match_query ∷ []) (t ∷ u) (read-first rules match_query flwor t u [] (sym (match-starts t u) ∙ e)) come) in
+    (_, by_first a.derived, record { document_is = a.document_is; edges_are = a.edges_are })
+
+-- a reading that ends with no part left has no token left
+nothing-left : (s : List Tok) → read rules s (Some []) ≡ None → s ≡ []
+nothing-left [] e = refl
+nothing-left (t ∷ u) e = some-none e
+
+pub flwor-asks : (names : Names) (s left : List Tok) (q : flwor.Flwor) → is_match s ≡ false → names ≡ bound (clauses_in s) → Builds flwor (IsFlwor names q) s left → Asks s (Flwor q)
+flwor-asks names [] left q e names_are is come = some-none come.parts
+flwor-asks names (t ∷ u) left q e names_are is come =
+    let b = is [] false (come-as false (query ∷ []) (flwor ∷ []) (t ∷ u) (read-second rules match_query flwor t u [] (sym (match-starts t u) ∙ e)) come) in
+    let ended = nothing-left left b.behind.parts in
+    let ends : Derives rules [] [] left = rw ended at_end in
+    let same : names ≡ bound (t ∷ u) = names_are ∙ rw e refl in
+    (_, by_second (b.derived [] ends), rw (sym same) b.is)
