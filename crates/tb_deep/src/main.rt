@@ -1,65 +1,93 @@
-//! `tb_deep`: reads the deepest queries on a thread with the smallest stack, of 128 KiB.
+//! `tb_deep`: reads the deepest and the longest queries on a thread with the smallest stack, of 128 KiB.
 //!
 //! The gate runs it as a compiled program. A query has up to 65,536 bytes, and all of its syntax is
-//! read before deep nesting is told, so a reader that called itself once a bracket would run out of
-//! this stack.
+//! read before deep nesting is told, so a reader that called itself once a bracket or a tag would run
+//! out of this stack.
 #![tactic(auto)]
 
 use std::alloc::{AllocError, Global};
 use std::io;
 use std::sync::Wait;
 use std::thread::{self, Builder, Threads};
-use tb_pattern::{Pattern, PatternFault, read_pattern};
-use tb_token::{LexFault, tokens};
+use tb_flwor::{QueryFault, read_query};
+use tb_query::Query;
 
-/// Bytes of a query at most.
-const MOST_TEXT: usize = 65_536;
+/// A query that opens one thing many times, and closes it, or not.
+#[derive(Clone, Copy)]
+struct Shape {
+    front: &'static str,
+    opening: &'static str,
+    closing: &'static str,
+}
 
-/// Brackets that fit where none is closed.
-const MOST_OPEN: usize = 16_379;
+const PATTERN: Shape = Shape {
+    front: "MATCH document('d') ",
+    opening: "(/-a",
+    closing: ")",
+};
 
-/// Brackets that fit where all are closed.
-const MOST_CLOSED: usize = 13_103;
+const CONSTRUCTOR: Shape = Shape {
+    front: "FOR $x IN document('d')//a RETURN ",
+    opening: "<a>",
+    closing: "</a>",
+};
 
-/// Levels of a pattern at most.
-const LEVELS: usize = 32;
+const PATH: Shape = Shape {
+    front: "FOR $x IN document('d')//a RETURN $x",
+    opening: "/a",
+    closing: "",
+};
 
 /// What reading a query gave.
 #[derive(Debug, Drop)]
 enum Told {
-    TooLong,
-    Cut(LexFault),
-    Refused(PatternFault),
+    Refused(QueryFault),
     /// So many edges stand at the document node.
-    Read(usize),
+    Match(usize),
+    /// So many clauses come first.
+    Clauses(usize),
 }
 
 fn main(rt: HostRuntime) -> io::Result<()> {
-    for (open, closed) in [
-        (MOST_OPEN, 0),
-        (MOST_CLOSED, MOST_CLOSED),
-        (LEVELS + 1, LEVELS + 1),
-        (LEVELS, LEVELS),
+    // As many as 65,536 bytes have room for, and each limit from both sides.
+    for (shape, opened, closed) in [
+        (PATTERN, 16_379, 0),
+        (PATTERN, 13_103, 13_103),
+        (PATTERN, 33, 33),
+        (PATTERN, 32, 32),
+        (CONSTRUCTOR, 21_834, 0),
+        (CONSTRUCTOR, 9_357, 9_357),
+        (CONSTRUCTOR, 33, 33),
+        (CONSTRUCTOR, 32, 32),
+        (PATH, 32_750, 0),
+        (PATH, 64, 0),
+        (PATH, 63, 0),
     ] {
-        let text = nested(rt.alloc(), open, closed)?;
+        let text = nested(rt.alloc(), shape, opened, closed)?;
         let told = on_small_stack(&rt, rt.alloc(), &text)?;
         println!(rt;
-            "{open} open, {closed} closed, {} bytes: {told:?}",
+            "{} {opened} times, {closed} closed, {} bytes: {told:?}",
+            shape.opening,
             text.len()
         )?;
     }
     Ok(())
 }
 
-/// A query with so many brackets opened, and so many closed.
-fn nested(alloc: Global, open: usize, closed: usize) -> Result<Vec<u8>, AllocError> {
+/// A query of the shape, with so many opened, and so many closed.
+fn nested(
+    alloc: Global,
+    shape: Shape,
+    opened: usize,
+    closed: usize,
+) -> Result<Vec<u8>, AllocError> {
     let mut text = Vec::new(alloc);
-    text.extend_from_slice(b"MATCH document('d') ")?;
-    for _turn in 0..open {
-        text.extend_from_slice(b"(/-a")?;
+    text.extend_from_slice(shape.front.as_bytes())?;
+    for _turn in 0..opened {
+        text.extend_from_slice(shape.opening.as_bytes())?;
     }
     for _turn in 0..closed {
-        text.push(b')')?;
+        text.extend_from_slice(shape.closing.as_bytes())?;
     }
     Ok(text)
 }
@@ -79,19 +107,9 @@ fn on_small_stack<R: Threads + Wait + Sync>(
 }
 
 fn read(alloc: Global, text: &[u8]) -> Told {
-    if text.len() > MOST_TEXT {
-        return Told::TooLong;
-    }
-    let tokens = match tokens(alloc, text) {
-        Ok(tokens) => tokens,
-        Err(fault) => return Told::Cut(fault),
-    };
-    match read_pattern(alloc, text, tokens.as_slice()) {
-        Ok(pattern) => Told::Read(edges(&pattern)),
+    match read_query(alloc, text) {
+        Ok(Query::Match(pattern)) => Told::Match(pattern.edges.as_slice().len()),
+        Ok(Query::Flwor(flwor)) => Told::Clauses(flwor.clauses.as_slice().len()),
         Err(fault) => Told::Refused(fault),
     }
-}
-
-fn edges(pattern: &Pattern) -> usize {
-    pattern.edges.as_slice().len()
 }
