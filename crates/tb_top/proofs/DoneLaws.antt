@@ -19,7 +19,7 @@ use Rattle.tb_core.specs.Replay.{Numbered}
 use Rattle.tb_core.specs.declared.event.Event.{Event}
 use Rattle.tb_top.specs.Answer.{answer_of, two_names}
 use Rattle.tb_top.specs.History.{Change, document_in}
-use Rattle.tb_top.specs.Deeds.{Record, loaded, refused, answered, told, heard, Deed, event_of, events_of, change_by, changes_behind, history_of, IsAnswer, IsResult}
+use Rattle.tb_top.specs.Deeds.{Record, loaded, refused, answered, refused_query, told, heard, Deed, event_of, events_of, change_by, changes_behind, history_of, IsAnswer, IsResult}
 use Rattle.tb_top.specs.Single.{step_of, world_of, IsTranscript}
 use Rattle.tb_top.specs.Transcript.{block_of, blocks_of, history_part}
 use Rattle.tb_top.specs.Running.{Progress, Does, begun, at_start, ended}
@@ -49,12 +49,14 @@ answer-stays history more text front answer is =
     record {
       query = is.query;
       is = is.is;
+      faultless = is.faultless;
       within = omega (arith, is.within, length-append history more);
       answer_is = is.answer_is ∙ ap (λ cs. answer_of (two_names is.query.first is.query.second) (document_in cs is.query.document)) (sym (take-append-le front history more is.within));
     }
 
 pub result-stays : (history more : List Change) (c : Command) (r : Record) → IsResult history c r → IsResult (history ++ more) c r
 result-stays history more (Query text) (answered front answer) is = answer-stays history more text front answer is
+result-stays history more (Query text) (refused_query fault) is = is
 result-stays history more (Load name lines) (loaded k tree) is = is
 result-stays history more (Load name lines) (refused fault) is = is
 result-stays history more (Tell mark name) (told k) is = is

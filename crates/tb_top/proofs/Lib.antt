@@ -11,6 +11,7 @@ pub mod DoneLaws
 pub mod HistoryLaws
 pub mod ReadyLaws
 pub mod CheckLaws
+pub mod FaultLaws
 pub mod BuiltLaws
 pub mod SettledLaws
 pub mod Completeness

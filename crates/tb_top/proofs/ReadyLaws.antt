@@ -17,7 +17,7 @@ use Rattle.tb_script.proofs.ScheduleLaws.{steps-keep, commands-next, schedule-wi
 use Rattle.tb_core.specs.declared.event.Event.TheVariants as event
 use Rattle.tb_core.specs.World.{State, with_seen, answer, after_all, told_at}
 use Rattle.tb_top.specs.History.{Change}
-use Rattle.tb_top.specs.Deeds.{Record, loaded, refused, answered, told, heard, event_of, change_by, IsResult}
+use Rattle.tb_top.specs.Deeds.{Record, loaded, refused, answered, refused_query, told, heard, event_of, change_by, IsResult}
 use Rattle.tb_top.specs.Single.{IsBuilt, AreBuilt}
 use Rattle.tb_top.specs.Running.{Progress, Does, Stands, IsReadyFor, begun, at_start}
 
@@ -84,6 +84,8 @@ left w marks session history cs (Query text) (answered front answer) may below =
       agree = λ agree. agree;
       few = λ more. omega arith;
     }
+left w marks session history cs (Query text) (refused_query fault) may below =
+    record { seen = refl; tolds = refl; room = refl; history = omega arith; agree = λ agree. agree; few = λ more. omega arith }
 left w marks session history cs (Tell mark name) (told k) may below =
     record {
       seen = refl;
@@ -104,6 +106,7 @@ left w marks session history cs (Hear mark name) (heard k) may below =
       few = λ more. omega arith;
     }
 left w marks session history cs (Load name lines) (answered a b) may below = absurd may
+left w marks session history cs (Load name lines) (refused_query a) may below = absurd may
 left w marks session history cs (Load name lines) (told a) may below = absurd may
 left w marks session history cs (Load name lines) (heard a) may below = absurd may
 left w marks session history cs (Query text) (loaded a b) may below = absurd may
@@ -113,10 +116,12 @@ left w marks session history cs (Query text) (heard a) may below = absurd may
 left w marks session history cs (Tell mark name) (loaded a b) may below = absurd may
 left w marks session history cs (Tell mark name) (refused a) may below = absurd may
 left w marks session history cs (Tell mark name) (answered a b) may below = absurd may
+left w marks session history cs (Tell mark name) (refused_query a) may below = absurd may
 left w marks session history cs (Tell mark name) (heard a) may below = absurd may
 left w marks session history cs (Hear mark name) (loaded a b) may below = absurd may
 left w marks session history cs (Hear mark name) (refused a) may below = absurd may
 left w marks session history cs (Hear mark name) (answered a b) may below = absurd may
+left w marks session history cs (Hear mark name) (refused_query a) may below = absurd may
 left w marks session history cs (Hear mark name) (told a) may below = absurd may
 
 -- The commands of these steps can be done, one after the other.

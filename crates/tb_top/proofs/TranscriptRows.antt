@@ -1,16 +1,18 @@
 -- Worked rows of transcripts, computed.
-use Rattle.std.proofs.Common.{◌≡◌, ℕ, List, [], ◌∷◌, refl, codes}
+use Rattle.std.proofs.Common.{◌≡◌, ℕ, List, [], ◌∷◌, ◌++◌, refl, codes}
 use Rattle.std.specs.Prelude.{Some, None}
 use Rattle.std.specs.Fmt.{digits}
 use Rattle.tb_tree.specs.Plain.{Plain, elem, no_kids, kid}
 use Rattle.tb_esis.specs.declared.fault.EsisFault.TheVariants as esis
+use Rattle.tb_flwor.specs.declared.fault.QueryFault.TheVariants as query
 use Rattle.tb_script.specs.declared.command.Command.{Command}
 use Rattle.tb_script.specs.declared.command.Command.TheVariants as command
 use Rattle.tb_top.specs.Answer.{answer_of, two_names}
 use Rattle.tb_top.specs.History.{document_at}
-use Rattle.tb_top.specs.Deeds.{Record, loaded, refused, answered, told, heard, Deed, history_of}
+use Rattle.tb_top.specs.Deeds.{Record, loaded, refused, answered, refused_query, told, heard, Deed, history_of}
 use Rattle.tb_top.specs.Transcript.{transcript_of}
-use Rattle.tb_top.specs.Check.{check_of}
+use Rattle.tb_top.specs.QueryFaults.{IsFaultOf}
+use Rattle.tb_top.specs.Check.{IsCheck}
 
 -- `a` in `a` in `a`, and `x` alone
 abbrev nested : Plain
@@ -52,6 +54,17 @@ pub refused-transcript : transcript_of 1 refused_deeds ≡ codes "session 1\n1 l
 unfolding digits
 refused-transcript = refl
 
+-- queries that are refused see no front and make no change, with a number and without one
+abbrev refused_query_deeds : List Deed
+refused_query_deeds =
+    deed 0 0 (command.Query []) (refused_query (query.Syntax 11)) ∷ deed 0 1 (command.Load (codes "n") []) (loaded 1 alone)
+    ∷ deed 0 2 (command.Query []) (refused_query query.TooNested) ∷ []
+
+pub refused_query-transcript : transcript_of 1 refused_query_deeds
+    ≡ codes "session 1\n1 query refused syntax 11\n2 load n at 1\n3 query refused too-nested\nend\nhistory 1\n1 session 1 change 1 load n\nok\n"
+unfolding digits
+refused_query-transcript = refl
+
 pub empty-transcript : transcript_of 0 [] ≡ codes "history 0\nok\n"
 unfolding digits
 empty-transcript = refl
@@ -71,7 +84,30 @@ unfolding digits
 twice-transcript = refl
 
 -- what `check` prints of two loads, one with a fault
-pub check-refused : check_of ((command.Load (codes "x") (codes "(a\n)b\n") ∷ command.Load (codes "y") (codes "(a\n)a\n") ∷ []) ∷ [])
-    ≡ codes "1 1 load refused wrong-end 2\ncheck sessions 1 commands 2 loads 2 queries 0\n"
+pub check-refused : IsCheck ((command.Load (codes "x") (codes "(a\n)b\n") ∷ command.Load (codes "y") (codes "(a\n)a\n") ∷ []) ∷ [])
+    (codes "1 1 load refused wrong-end 2\ncheck sessions 1 commands 2 loads 2 queries 0\n")
 unfolding digits
-check-refused = refl
+check-refused =
+    let line = codes "1 1 load refused wrong-end 2\n" in
+    (line, (line, [], ((line, [], (refl, ([], [], (refl, refl, refl)), refl)), refl, refl)), refl)
+
+-- and of three queries, two of which have a fault
+pub check-refused_queries : (s t u : List ℕ) → IsFaultOf s (Some (query.BadByte 0)) → IsFaultOf t None → IsFaultOf u (Some query.TooLong)
+    → IsCheck ((command.Query s ∷ command.Query t ∷ []) ∷ (command.Query u ∷ []) ∷ [])
+    (codes "1 1 query refused bad-byte 0\n2 1 query refused too-long\ncheck sessions 2 commands 3 loads 0 queries 3\n")
+unfolding digits
+check-refused_queries s t u bad none long =
+    let one = codes "1 1 query refused bad-byte 0\n" in
+    let two = codes "2 1 query refused too-long\n" in (
+      one ++ two,
+      (
+        one,
+        two,
+        (
+          (one, [], ((Some (query.BadByte 0), bad, refl), ([], [], ((None, none, refl), refl, refl)), refl)),
+          (two, [], ((two, [], ((Some query.TooLong, long, refl), refl, refl)), refl, refl)),
+          refl,
+        ),
+      ),
+      refl,
+    )

@@ -17,11 +17,12 @@ use Rattle.tb_core.specs.declared.event.Event.{Event}
 use Rattle.tb_top.specs.Answer.{answer_of, two_names}
 use Rattle.tb_top.specs.QueryText as text
 use Rattle.tb_top.specs.History.{Change, document_in}
-use Rattle.tb_top.specs.Deeds.{Record, loaded, refused, answered, told, heard, Deed, event_of, events_of, change_by, changes_behind, history_of, IsAnswer, IsResult}
+use Rattle.tb_top.specs.Deeds.{Record, loaded, refused, answered, refused_query, told, heard, Deed, event_of, events_of, change_by, changes_behind, history_of, IsAnswer, IsResult}
 use Rattle.tb_top.specs.Single.{step_of, world_of, IsRun, IsTranscript}
 use Rattle.tb_top.specs.Transcript.{transcript_of}
 use Rattle.tb_top.proofs.DoneLaws.{run-append, changes_behind-append}
 use Rattle.tb_top.proofs.QueryLaws.{query-unique}
+use Rattle.tb_top.proofs.FaultLaws.{refused-once, never-both}
 
 abbrev event : Numbered → Event
 event x = x.event
@@ -65,9 +66,11 @@ longer : (w : State) (session : ℕ) (history cs : List Change) (c : Command) (r
 longer w session history cs (Load name lines) (loaded k tree) may same = omega (arith, length-append w.history (session ∷ []), length-append cs (change_by cs session (Load name lines) (loaded k tree)))
 longer w session history cs (Load name lines) (refused fault) may same = same ∙ ap length (sym (append-nil cs))
 longer w session history cs (Query t) (answered front answer) may same = same ∙ ap length (sym (append-nil cs))
+longer w session history cs (Query t) (refused_query fault) may same = same ∙ ap length (sym (append-nil cs))
 longer w session history cs (Tell mark name) (told k) may same = same ∙ ap length (sym (append-nil cs))
 longer w session history cs (Hear mark name) (heard k) may same = ap length (still w session (answer w (event_kind.Hear session mark))) ∙ same ∙ ap length (sym (append-nil cs))
 longer w session history cs (Load name lines) (answered a b) may same = absurd may
+longer w session history cs (Load name lines) (refused_query a) may same = absurd may
 longer w session history cs (Load name lines) (told a) may same = absurd may
 longer w session history cs (Load name lines) (heard a) may same = absurd may
 longer w session history cs (Query t) (loaded a b) may same = absurd may
@@ -77,10 +80,12 @@ longer w session history cs (Query t) (heard a) may same = absurd may
 longer w session history cs (Tell mark name) (loaded a b) may same = absurd may
 longer w session history cs (Tell mark name) (refused a) may same = absurd may
 longer w session history cs (Tell mark name) (answered a b) may same = absurd may
+longer w session history cs (Tell mark name) (refused_query a) may same = absurd may
 longer w session history cs (Tell mark name) (heard a) may same = absurd may
 longer w session history cs (Hear mark name) (loaded a b) may same = absurd may
 longer w session history cs (Hear mark name) (refused a) may same = absurd may
 longer w session history cs (Hear mark name) (answered a b) may same = absurd may
+longer w session history cs (Hear mark name) (refused_query a) may same = absurd may
 longer w session history cs (Hear mark name) (told a) may same = absurd may
 
 -- the changes so far stand first in what follows
@@ -114,7 +119,7 @@ answer-same cs one two t f g a b begins_one begins_two at_one at_two is also =
     let of = λ (q : text.Query) (ds : List Change). answer_of (two_names q.first q.second) (document_in ds q.document) in
     ap₂ answered (at_one ∙ sym at_two) (is.answer_is ∙ ap₂ of same (docs_one ∙ sym docs_two) ∙ sym also.answer_is)
 
--- What a command comes to is one: it has one number there, one reading and one answer.
+-- What a command comes to is one: it has one number there, one reading, one answer and one fault.
 result-same : (w : State) (session : ℕ) (cs one two : List Change) (c : Command) (r s : Record) → length w.history ≡ length cs → take (length cs) one ≡ cs → take (length cs) two ≡ cs
     → Answers w (event_of session c r) → Answers w (event_of session c s) → IsResult one c r → IsResult two c s → r ≡ s
 result-same w session cs one two (Load name lines) (loaded k t) (loaded l u) long b1 b2 a1 a2 m1 m2 = ap₂ loaded (number-same w (event_kind.Change session) k l a1 a2) (read-unique lines t u m1 m2)
@@ -127,15 +132,21 @@ result-same w session cs one two (Query t) (answered f a) (answered g b) long b1
     let at_f = some-same (length w.history) f (first-same (Some (length w.history)) (Some f) a1) in
     let at_g = some-same (length w.history) g (first-same (Some (length w.history)) (Some g) a2) in
     answer-same cs one two t f g a b b1 b2 (sym at_f ∙ long) (sym at_g ∙ long) m1 m2
+result-same w session cs one two (Query t) (refused_query f) (refused_query g) long b1 b2 a1 a2 m1 m2 = ap refused_query (refused-once t f g m1 m2)
+result-same w session cs one two (Query t) (answered f a) (refused_query g) long b1 b2 a1 a2 m1 m2 = absurd (never-both t g m1.faultless m2)
+result-same w session cs one two (Query t) (refused_query f) (answered g b) long b1 b2 a1 a2 m1 m2 = absurd (never-both t f m2.faultless m1)
 result-same w session cs one two (Tell mark name) (told k) (told l) long b1 b2 a1 a2 m1 m2 = ap told (number-same w (event_kind.Tell session mark) k l a1 a2)
 result-same w session cs one two (Hear mark name) (heard k) (heard l) long b1 b2 a1 a2 m1 m2 = ap heard (number-same w (event_kind.Hear session mark) k l a1 a2)
 result-same w session cs one two (Load name lines) (answered g b) s long b1 b2 a1 a2 m1 m2 = absurd m1
+result-same w session cs one two (Load name lines) (refused_query q) s long b1 b2 a1 a2 m1 m2 = absurd m1
 result-same w session cs one two (Load name lines) (told l) s long b1 b2 a1 a2 m1 m2 = absurd m1
 result-same w session cs one two (Load name lines) (heard i) s long b1 b2 a1 a2 m1 m2 = absurd m1
 result-same w session cs one two (Load name lines) (loaded k t) (answered g2 b2x) long b1 b2 a1 a2 m1 m2 = absurd m2
+result-same w session cs one two (Load name lines) (loaded k t) (refused_query q2) long b1 b2 a1 a2 m1 m2 = absurd m2
 result-same w session cs one two (Load name lines) (loaded k t) (told l2) long b1 b2 a1 a2 m1 m2 = absurd m2
 result-same w session cs one two (Load name lines) (loaded k t) (heard i2) long b1 b2 a1 a2 m1 m2 = absurd m2
 result-same w session cs one two (Load name lines) (refused f) (answered g2 b2x) long b1 b2 a1 a2 m1 m2 = absurd m2
+result-same w session cs one two (Load name lines) (refused f) (refused_query q2) long b1 b2 a1 a2 m1 m2 = absurd m2
 result-same w session cs one two (Load name lines) (refused f) (told l2) long b1 b2 a1 a2 m1 m2 = absurd m2
 result-same w session cs one two (Load name lines) (refused f) (heard i2) long b1 b2 a1 a2 m1 m2 = absurd m2
 result-same w session cs one two (Query t0) (loaded k t) s long b1 b2 a1 a2 m1 m2 = absurd m1
@@ -146,21 +157,29 @@ result-same w session cs one two (Query t0) (answered g b) (loaded k2 t2) long b
 result-same w session cs one two (Query t0) (answered g b) (refused f2) long b1 b2 a1 a2 m1 m2 = absurd m2
 result-same w session cs one two (Query t0) (answered g b) (told l2) long b1 b2 a1 a2 m1 m2 = absurd m2
 result-same w session cs one two (Query t0) (answered g b) (heard i2) long b1 b2 a1 a2 m1 m2 = absurd m2
+result-same w session cs one two (Query t0) (refused_query q) (loaded k2 t2) long b1 b2 a1 a2 m1 m2 = absurd m2
+result-same w session cs one two (Query t0) (refused_query q) (refused f2) long b1 b2 a1 a2 m1 m2 = absurd m2
+result-same w session cs one two (Query t0) (refused_query q) (told l2) long b1 b2 a1 a2 m1 m2 = absurd m2
+result-same w session cs one two (Query t0) (refused_query q) (heard i2) long b1 b2 a1 a2 m1 m2 = absurd m2
 result-same w session cs one two (Tell mark name) (loaded k t) s long b1 b2 a1 a2 m1 m2 = absurd m1
 result-same w session cs one two (Tell mark name) (refused f) s long b1 b2 a1 a2 m1 m2 = absurd m1
 result-same w session cs one two (Tell mark name) (answered g b) s long b1 b2 a1 a2 m1 m2 = absurd m1
+result-same w session cs one two (Tell mark name) (refused_query q) s long b1 b2 a1 a2 m1 m2 = absurd m1
 result-same w session cs one two (Tell mark name) (heard i) s long b1 b2 a1 a2 m1 m2 = absurd m1
 result-same w session cs one two (Tell mark name) (told l) (loaded k2 t2) long b1 b2 a1 a2 m1 m2 = absurd m2
 result-same w session cs one two (Tell mark name) (told l) (refused f2) long b1 b2 a1 a2 m1 m2 = absurd m2
 result-same w session cs one two (Tell mark name) (told l) (answered g2 b2x) long b1 b2 a1 a2 m1 m2 = absurd m2
+result-same w session cs one two (Tell mark name) (told l) (refused_query q2) long b1 b2 a1 a2 m1 m2 = absurd m2
 result-same w session cs one two (Tell mark name) (told l) (heard i2) long b1 b2 a1 a2 m1 m2 = absurd m2
 result-same w session cs one two (Hear mark name) (loaded k t) s long b1 b2 a1 a2 m1 m2 = absurd m1
 result-same w session cs one two (Hear mark name) (refused f) s long b1 b2 a1 a2 m1 m2 = absurd m1
 result-same w session cs one two (Hear mark name) (answered g b) s long b1 b2 a1 a2 m1 m2 = absurd m1
+result-same w session cs one two (Hear mark name) (refused_query q) s long b1 b2 a1 a2 m1 m2 = absurd m1
 result-same w session cs one two (Hear mark name) (told l) s long b1 b2 a1 a2 m1 m2 = absurd m1
 result-same w session cs one two (Hear mark name) (heard i) (loaded k2 t2) long b1 b2 a1 a2 m1 m2 = absurd m2
 result-same w session cs one two (Hear mark name) (heard i) (refused f2) long b1 b2 a1 a2 m1 m2 = absurd m2
 result-same w session cs one two (Hear mark name) (heard i) (answered g2 b2x) long b1 b2 a1 a2 m1 m2 = absurd m2
+result-same w session cs one two (Hear mark name) (heard i) (refused_query q2) long b1 b2 a1 a2 m1 m2 = absurd m2
 result-same w session cs one two (Hear mark name) (heard i) (told l2) long b1 b2 a1 a2 m1 m2 = absurd m2
 
 -- Two runs that are one so far are one.

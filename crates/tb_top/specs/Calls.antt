@@ -8,7 +8,7 @@ use Rattle.tb_script.specs.declared.fault.ScriptFault.{ScriptFault}
 use Rattle.tb_script.specs.declared.fault.ScriptFault.TheVariants.{InputTooLong}
 use Rattle.tb_top.specs.FaultText.{script_line}
 use Rattle.tb_top.specs.Single.{AreBuilt, IsTranscript}
-use Rattle.tb_top.specs.Check.{check_of}
+use Rattle.tb_top.specs.Check.{IsCheck}
 use Rattle.tb_top.specs.Tasks.{Spells, SpellsNone}
 use Rattle.tb_top.specs.Moved.{SourceMoved, SinkMoved, ReadNothing, ReadAll, ReadTooMuch, ReadFailed, ReadSome, Wrote, WrotePart, Tells}
 use Rattle.tb_top.specs.declared.task.Task.{Task}
@@ -19,7 +19,7 @@ use Rattle.tb_top.specs.declared.status.Status.TheVariants as status
 -- What a command prints of a script: `single` the transcript, `check` the refusals and the counts.
 abbrev pub IsOutput : Task → Workload → List ℕ → Type 0
 IsOutput task.Single w text = IsTranscript w text
-IsOutput task.Check w text = text ≡ check_of (commands_in w)
+IsOutput task.Check w text = IsCheck (commands_in w) text
 
 -- the input is read as a script whose queries are built, and this holds of what the command prints
 abbrev pub ReadBuilt : Task → SourceMoved → (List ℕ → Type 0) → Type 0
@@ -27,7 +27,8 @@ ReadBuilt t source P =
     (bytes : List ℕ) × (w : Workload) × (text : List ℕ)
     × (ReadAll source bytes × IsReadAs bytes w × AreBuilt w × IsOutput t w text × P text)
 
--- the input is read as a script that has a query which isn't built
+-- the input is read as a script that has a query which isn't built: its text is neither that of the
+-- one form nor refused
 abbrev pub ReadUnbuilt : SourceMoved → Type 0
 ReadUnbuilt source =
     (bytes : List ℕ) × (w : Workload) × (ReadAll source bytes × IsReadAs bytes w × (AreBuilt w → ⊥))

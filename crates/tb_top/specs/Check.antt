@@ -1,35 +1,54 @@
--- What `check` prints: a line for each load whose body has a fault, and the counts.
-use Rattle.std.specs.Prelude.{ℕ, ◌+◌, List, [], ◌∷◌, ◌++◌, Option, Some, None, codes, decimal, length}
+-- What `check` prints: a line for each load whose body has a fault and each query whose text has one,
+-- and the counts.
+use Rattle.std.specs.Prelude.{◌≡◌, ℕ, ◌+◌, List, [], ◌∷◌, ◌++◌, Option, Some, None, codes, decimal, length}
 use Rattle.tb_esis.specs.Faults.{fault_of}
 use Rattle.tb_esis.specs.declared.fault.EsisFault.{EsisFault}
+use Rattle.tb_flwor.specs.declared.fault.QueryFault.{QueryFault}
 use Rattle.tb_script.specs.declared.command.Command.{Command}
 use Rattle.tb_script.specs.declared.command.Command.TheVariants.{Load, Query}
 use Rattle.tb_script.specs.Runnable.{loads_in}
+use Rattle.tb_top.specs.QueryFaults.{IsFaultOf}
 use Rattle.tb_top.specs.FaultText.{esis_fault_text}
+use Rattle.tb_top.specs.Transcript.{refused_query_line}
 
 -- `S I load refused FAULT L`: the body of command I of session S, both from 1, has that fault
 abbrev pub refused_load : ℕ → ℕ → EsisFault → List ℕ
 refused_load session number fault =
     decimal session ++ codes " " ++ decimal number ++ codes " load refused " ++ esis_fault_text fault ++ codes "\n"
 
-abbrev pub refusal_line : ℕ → ℕ → Option EsisFault → List ℕ
-refusal_line session number None = []
-refusal_line session number (Some fault) = refused_load session number fault
+abbrev pub load_refusal : ℕ → ℕ → Option EsisFault → List ℕ
+load_refusal session number None = []
+load_refusal session number (Some fault) = refused_load session number fault
 
-abbrev pub refusal_of : ℕ → ℕ → Command → List ℕ
-refusal_of session number (Load name lines) = refusal_line session number (fault_of lines)
-refusal_of session number _ = []
+-- `S I query refused FAULT`, or `S I query refused FAULT N`: the text of the command has that fault
+abbrev pub refused_query : ℕ → ℕ → QueryFault → List ℕ
+refused_query session number fault = decimal session ++ codes " " ++ refused_query_line number fault
 
--- the refusals of a session's commands, the first of which has the number
-abbrev pub refusals_of : ℕ → ℕ → List Command → List ℕ
-refusals_of session number [] = []
-refusals_of session number (c ∷ cs) =
-    refusal_of session number c ++ refusals_of session (number + 1) cs
+abbrev pub query_refusal : ℕ → ℕ → Option QueryFault → List ℕ
+query_refusal session number None = []
+query_refusal session number (Some fault) = refused_query session number fault
 
--- those of all sessions, the first of which has the number
-abbrev pub refusals_in : ℕ → List (List Command) → List ℕ
-refusals_in session [] = []
-refusals_in session (cs ∷ css) = refusals_of session 1 cs ++ refusals_in (session + 1) css
+-- The line of a command that is refused, nothing of another. A text has one fault or none.
+abbrev pub IsRefusal : ℕ → ℕ → Command → List ℕ → Type 0
+IsRefusal session number (Load name lines) line =
+    line ≡ load_refusal session number (fault_of lines)
+IsRefusal session number (Query text) line =
+    (fault : Option QueryFault) × IsFaultOf text fault × (line ≡ query_refusal session number fault)
+IsRefusal session number _ line = line ≡ []
+
+-- the lines of each, one behind the other; this holds of the lines of one and its number, and the
+-- first has the number
+abbrev pub AreLines : {X : Type 0} → (ℕ → X → List ℕ → Type 0) → ℕ → List X → List ℕ → Type 0
+AreLines Is number [] lines = lines ≡ []
+AreLines Is number (x ∷ xs) lines =
+    (first : List ℕ) × (more : List ℕ) × (Is number x first × AreLines Is (number + 1) xs more × (lines ≡ first ++ more))
+
+-- the refusals of a session's commands, and of all sessions
+abbrev pub AreRefusals : ℕ → List Command → List ℕ → Type 0
+AreRefusals session cs lines = AreLines (IsRefusal session) 1 cs lines
+
+abbrev pub AreAllRefusals : List (List Command) → List ℕ → Type 0
+AreAllRefusals css lines = AreLines AreRefusals 1 css lines
 
 -- how many commands there are
 abbrev pub commands_count : List (List Command) → ℕ
@@ -52,7 +71,12 @@ counts_line sessions commands loads queries =
     codes "check sessions " ++ decimal sessions ++ codes " commands " ++ decimal commands ++ codes " loads "
     ++ decimal loads ++ codes " queries " ++ decimal queries ++ codes "\n"
 
+-- the counts of these sessions
+abbrev pub counts_of : List (List Command) → List ℕ
+counts_of sessions =
+    counts_line (length sessions) (commands_count sessions) (loads_in sessions) (queries_in sessions)
+
 -- the whole text
-abbrev pub check_of : List (List Command) → List ℕ
-check_of sessions =
-    refusals_in 1 sessions ++ counts_line (length sessions) (commands_count sessions) (loads_in sessions) (queries_in sessions)
+abbrev pub IsCheck : List (List Command) → List ℕ → Type 0
+IsCheck sessions text =
+    (refusals : List ℕ) × AreAllRefusals sessions refusals × (text ≡ refusals ++ counts_of sessions)

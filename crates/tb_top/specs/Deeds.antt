@@ -1,5 +1,5 @@
 -- What the commands of a script come to.
-use Rattle.std.specs.Prelude.{◌≡◌, ℕ, ◌+◌, ◌≤◌, List, [], ◌∷◌, ◌++◌, Some, length}
+use Rattle.std.specs.Prelude.{◌≡◌, ℕ, ◌+◌, ◌≤◌, List, [], ◌∷◌, ◌++◌, Some, None, length}
 use Rattle.std.specs.List.{flat_map}
 use Rattle.tb_tree.specs.Plain.{Plain}
 use Rattle.tb_esis.specs.Reading.{IsReadAs}
@@ -7,11 +7,13 @@ use Rattle.tb_esis.specs.Faults.{fault_of}
 use Rattle.tb_esis.specs.declared.fault.EsisFault.{EsisFault}
 use Rattle.tb_script.specs.declared.command.Command.{Command}
 use Rattle.tb_script.specs.declared.command.Command.TheVariants as command
+use Rattle.tb_flwor.specs.declared.fault.QueryFault.{QueryFault}
 use Rattle.tb_core.specs.Replay.{Numbered}
 use Rattle.tb_core.specs.declared.event.Event.{Event}
 use Rattle.tb_core.specs.declared.event.Event.TheVariants as event
 use Rattle.tb_top.specs.Answer.{Answer, answer_of, two_names}
 use Rattle.tb_top.specs.QueryText.{Query, IsQuery}
+use Rattle.tb_top.specs.QueryFaults.{IsFaultOf}
 use Rattle.tb_top.specs.History.{Change, count_of, document_at}
 
 -- what a command came to
@@ -22,6 +24,8 @@ pub data Record : Type 0 where
   refused : EsisFault → Record
   -- a query: answered over the first changes, so many
   answered : ℕ → Answer → Record
+  -- a query: its text has the fault
+  refused_query : QueryFault → Record
   -- a `tell`: what its session had seen
   told : ℕ → Record
   -- a `hear`: what its session has then seen
@@ -37,7 +41,7 @@ pub record Deed : Type 0 where
 abbrev pub numbered : Event → ℕ → List Numbered
 numbered e n = record { event = e; number = n } ∷ []
 
--- the event of a command, with its number; a load that is refused has none
+-- the event of a command, with its number; a load or a query that is refused has none
 abbrev pub event_of : ℕ → Command → Record → List Numbered
 event_of session (command.Load name lines) (loaded k tree) = numbered (event.Change session) k
 event_of session (command.Query text) (answered front answer) = numbered (event.Look session) front
@@ -63,19 +67,22 @@ changes_behind cs (d ∷ ds) = changes_behind (cs ++ change_by cs d.session d.co
 abbrev pub history_of : List Deed → List Change
 history_of ds = changes_behind [] ds
 
--- The answer of a query over the documents of a front.
+-- The answer of a query, whose text has no fault, over the documents of a front.
 pub record IsAnswer (history : List Change) (text : List ℕ) (front : ℕ) (answer : Answer) : Type 0 where
   pub query : Query
   pub is : IsQuery text query
+  pub faultless : IsFaultOf text None
   pub within : front ≤ length history
   pub answer_is : answer ≡ answer_of (two_names query.first query.second) (document_at history front query.document)
 
 -- What a command may come to, where this is the history: a load is accepted with the tree that its
--- body is read as, or refused with the first fault of it.
+-- body is read as, or refused with the first fault of it; a query is answered, or refused with the
+-- first fault of its text.
 abbrev pub IsResult : List Change → Command → Record → Type 0
 IsResult history (command.Load name lines) (loaded k tree) = IsReadAs lines tree
 IsResult history (command.Load name lines) (refused fault) = fault_of lines ≡ Some fault
 IsResult history (command.Query text) (answered front answer) = IsAnswer history text front answer
+IsResult history (command.Query text) (refused_query fault) = IsFaultOf text (Some fault)
 IsResult history (command.Tell mark name) (told k) = Unit {0}
 IsResult history (command.Hear mark name) (heard k) = Unit {0}
 IsResult history _ _ = ⊥

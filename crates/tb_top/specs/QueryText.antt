@@ -21,3 +21,7 @@ pub record IsQuery (text : List ℕ) (q : Query) : Type 0 where
   pub first : IsTrue (is_query_name q.first)
   pub second : IsTrue (is_query_name q.second)
   pub short : length (query_line q) ≤ 65535
+
+-- the text is that of such a query
+abbrev pub HasQuery : List ℕ → Type 0
+HasQuery text = (q : Query) × IsQuery text q

@@ -2,12 +2,13 @@
 use Rattle.std.specs.Prelude.{ℕ, ◌+◌, ◌==◌, List, [], ◌∷◌, ◌++◌, codes, decimal, length}
 use Rattle.std.specs.List.{flat_map, filter, range_with_len}
 use Rattle.tb_esis.specs.declared.fault.EsisFault.{EsisFault}
+use Rattle.tb_flwor.specs.declared.fault.QueryFault.{QueryFault}
 use Rattle.tb_script.specs.declared.command.Command.{Command}
 use Rattle.tb_script.specs.declared.command.Command.TheVariants.{Load, Query, Tell, Hear}
 use Rattle.tb_top.specs.Answer.{Answer}
-use Rattle.tb_top.specs.FaultText.{esis_fault_text}
+use Rattle.tb_top.specs.FaultText.{esis_fault_text, query_fault_text}
 use Rattle.tb_top.specs.History.{Change}
-use Rattle.tb_top.specs.Deeds.{Record, loaded, refused, answered, told, heard, Deed, history_of}
+use Rattle.tb_top.specs.Deeds.{Record, loaded, refused, answered, refused_query, told, heard, Deed, history_of}
 
 -- `I load NAME at K`: command I loaded a document, as change K of the history
 abbrev pub load_line : ℕ → List ℕ → ℕ → List ℕ
@@ -23,6 +24,11 @@ refused_line number fault =
 abbrev pub answered_line : ℕ → ℕ → ℕ → List ℕ
 answered_line number front trees =
     decimal number ++ codes " query front " ++ decimal front ++ codes " trees " ++ decimal trees ++ codes "\n"
+
+-- `I query refused FAULT`, or `I query refused FAULT N`: its text has that fault
+abbrev pub refused_query_line : ℕ → QueryFault → List ℕ
+refused_query_line number fault =
+    decimal number ++ codes " query refused " ++ query_fault_text fault ++ codes "\n"
 
 -- `I tell MARK front K` and `I hear MARK front K`: the session had seen, or has then seen, K
 -- changes
@@ -43,6 +49,7 @@ abbrev pub block_of : ℕ → Command → Record → List ℕ
 block_of number (Load name lines) (loaded k tree) = load_line number name k
 block_of number (Load name lines) (refused fault) = refused_line number fault
 block_of number (Query text) (answered front answer) = query_block number front answer
+block_of number (Query text) (refused_query fault) = refused_query_line number fault
 block_of number (Tell mark name) (told k) = told_line number name k
 block_of number (Hear mark name) (heard k) = heard_line number name k
 block_of number _ _ = []

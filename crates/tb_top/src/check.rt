@@ -1,22 +1,26 @@
-//! What `check` prints: the loads that are refused, and the counts.
+//! What `check` prints: the loads and the queries that are refused, and the counts.
 
-ghost use Rattle.std.specs.Prelude.{◌≡◌, ◌++◌, ◌^◌, ◌<◌, ◌≤◌, None, IfOk, OnOk, decimal, length, map};
+ghost use Rattle.std.specs.Prelude.{◌≡◌, ◌++◌, ◌^◌, ◌<◌, ◌≤◌, None, List, ℕ, IfOk, OnOk, decimal, length, map};
 ghost use Rattle.std.specs.List.{AllByRecursion};
 ghost use Rattle.tb_esis.specs.Faults.{fault_of};
 ghost use Rattle.tb_script.specs.Runnable.{IsRunnable, HasBodyThatFits, commands_in, loads_in};
-ghost use Rattle.tb_top.specs.Check.{check_of, refusal_of, refusals_of, refusals_in, refused_load, commands_count, queries_in, counts_line};
+ghost use Rattle.tb_script.specs.declared.command.Command.TheVariants as command;
+ghost use Rattle.tb_top.specs.Check.{IsCheck, IsRefusal, AreRefusals, AreAllRefusals, load_refusal, refused_load, refused_query, commands_count, queries_in, counts_of, counts_line};
+ghost use Rattle.tb_top.specs.Pieces.{Grows};
 
 use crate::counts::{commands_in, loads_in, queries_in};
-use crate::printer::{push_esis_fault, push_number};
+use crate::printer::{push_esis_fault, push_number, push_refused_query_line};
+use crate::refusal::query_fault_in;
 use std::alloc::{AllocError, Global};
 use tb_esis::{EsisFault, read_tree};
+use tb_flwor::QueryFault;
 use tb_script::{Command, Script, Workload};
 use tb_tree::Tree;
 
 /// The refusals and the counts of a script.
 pub fn check(alloc: Global, w: &Workload) -> Result<Vec<u8>, AllocError>
     requires { IsRunnable w.now }
-    ensures { IfOk result (λ text. text.items ≡ check_of (commands_in w.now)) }
+    ensures { IfOk result (λ text. IsCheck (commands_in w.now) text.items) }
 {
     let mut text = Vec::new(alloc);
     check_sessions(alloc, &w.sessions, &mut text)?;
@@ -29,8 +33,8 @@ fn check_sessions(alloc: Global, sessions: &[Script], text: &mut Vec<u8>) -> Res
     requires commands { commands_count (map (λ s. s.commands.items) sessions.now) < 2 ^ 32 }
     requires loads { loads_in (map (λ s. s.commands.items) sessions.now) < 2 ^ 32 }
     requires queries { queries_in (map (λ s. s.commands.items) sessions.now) < 2 ^ 32 }
-    ensures { OnOk result (text.new.items ≡ text.old.items
-        ++ check_of (map (λ s. s.commands.items) sessions.now)) }
+    ensures { OnOk result (Grows text.old.items text.new.items
+        (IsCheck (map (λ s. s.commands.items) sessions.now))) }
 {
     push_refusals(alloc, sessions, text)?;
     let commands = commands_in(sessions);
@@ -43,8 +47,8 @@ fn check_sessions(alloc: Global, sessions: &[Script], text: &mut Vec<u8>) -> Res
 fn push_refusals(alloc: Global, sessions: &[Script], text: &mut Vec<u8>) -> Result<(), AllocError>
     requires { AllByRecursion (AllByRecursion HasBodyThatFits)
         (map (λ s. s.commands.items) sessions.now) }
-    ensures { OnOk result (text.new.items ≡ text.old.items
-        ++ refusals_in 1 (map (λ s. s.commands.items) sessions.now)) }
+    ensures { OnOk result (Grows text.old.items text.new.items
+        (AreAllRefusals (map (λ s. s.commands.items) sessions.now))) }
 {
     'sessions: for (place, script) in sessions.iter().enumerate() {
         push_refusals_of(alloc, place as u64 + 1, &script.commands, text)?;
@@ -59,7 +63,7 @@ fn push_refusals_of(
     text: &mut Vec<u8>,
 ) -> Result<(), AllocError>
     requires { AllByRecursion HasBodyThatFits commands.now }
-    ensures { OnOk result (text.new.items ≡ text.old.items ++ refusals_of session 1 commands.now) }
+    ensures { OnOk result (Grows text.old.items text.new.items (AreRefusals session commands.now)) }
 {
     'commands: for (place, command) in commands.iter().enumerate() {
         push_refusal(alloc, session, place as u64 + 1, command, text)?;
@@ -75,13 +79,49 @@ fn push_refusal(
     text: &mut Vec<u8>,
 ) -> Result<(), AllocError>
     requires { HasBodyThatFits command.now }
-    ensures { OnOk result (text.new.items ≡ text.old.items ++ refusal_of session number command.now) }
+    ensures { OnOk result (Grows text.old.items text.new.items
+        (IsRefusal session number command.now)) }
 {
-    let Command::Load { lines, .. } = command else {
-        return Ok(());
-    };
-    match fault_in(alloc, lines.as_slice())? {
+    match command {
+        Command::Load { lines, .. } => {
+            push_load_refusal(alloc, session, number, lines.as_slice(), text)
+        }
+        Command::Query { text: query } => {
+            push_query_refusal(alloc, session, number, query.as_slice(), text)
+        }
+        Command::Tell { .. } | Command::Hear { .. } => Ok(()),
+    }
+}
+
+fn push_load_refusal(
+    alloc: Global,
+    session: u64,
+    number: u64,
+    lines: &[u8],
+    text: &mut Vec<u8>,
+) -> Result<(), AllocError>
+    requires { length lines.now ≤ 67108864 }
+    ensures { OnOk result (text.new.items ≡ text.old.items
+        ++ load_refusal session number (fault_of lines.now)) }
+{
+    match fault_in(alloc, lines)? {
         Some(fault) => push_refused_load(session, number, &fault, text),
+        None => Ok(()),
+    }
+}
+
+fn push_query_refusal(
+    alloc: Global,
+    session: u64,
+    number: u64,
+    query: &[u8],
+    text: &mut Vec<u8>,
+) -> Result<(), AllocError>
+    ensures { OnOk result (Grows text.old.items text.new.items
+        (IsRefusal session number (command.Query query.now))) }
+{
+    match query_fault_in(alloc, query)? {
+        Some(fault) => push_refused_query(session, number, &fault, text),
         None => Ok(()),
     }
 }
@@ -120,6 +160,20 @@ fn push_refused_load(
     push_esis_fault(fault, text)?;
     text.push(b'\n')?;
     Ok(())
+}
+
+fn push_refused_query(
+    session: u64,
+    number: u64,
+    fault: &QueryFault,
+    text: &mut Vec<u8>,
+) -> Result<(), AllocError>
+    ensures { OnOk result
+        (text.new.items ≡ text.old.items ++ refused_query session number fault.now) }
+{
+    push_number(session, text)?;
+    text.push(b' ')?;
+    push_refused_query_line(number, fault, text)
 }
 
 fn push_counts(

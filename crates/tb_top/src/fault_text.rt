@@ -1,11 +1,12 @@
 //! How faults are printed.
 
 ghost use Rattle.std.specs.Prelude.{◌≡◌, ◌++◌, OnOk};
-ghost use Rattle.tb_top.specs.FaultText.{esis_fault_name, esis_fault_line, script_line, at_line};
+ghost use Rattle.tb_top.specs.FaultText.{esis_fault_name, esis_fault_line, query_fault_name, query_fault_number, script_line, at_line};
 
 use crate::printer::push_number;
 use std::alloc::AllocError;
 use tb_esis::EsisFault;
+use tb_flwor::QueryFault;
 use tb_script::ScriptFault;
 
 /// The name of a body's fault.
@@ -41,6 +42,48 @@ pub fn esis_fault_line(fault: &EsisFault) -> u32
         | EsisFault::TextOutside(line)
         | EsisFault::TooDeep(line) => *line,
         EsisFault::NoMemory => 0,
+    }
+}
+
+/// The name of a fault of a query's text.
+pub fn query_fault_name(fault: &QueryFault) -> &'static [u8]
+    ensures { result.now ≡ query_fault_name fault.now }
+{
+    match fault {
+        QueryFault::TooLong => b"too-long",
+        QueryFault::BadByte(_) => b"bad-byte",
+        QueryFault::OpenString(_) => b"open-string",
+        QueryFault::Syntax(_) => b"syntax",
+        QueryFault::TooNested => b"too-nested",
+        QueryFault::TooManyNodes => b"too-many-nodes",
+        QueryFault::TooManyVariables => b"too-many-variables",
+        QueryFault::UnknownVariable(_) => b"unknown-variable",
+        QueryFault::RepeatedVariable(_) => b"repeated-variable",
+        QueryFault::LiteralPast(_) => b"literal-past",
+        QueryFault::WrongTag(_) => b"wrong-tag",
+        QueryFault::RepeatedAttribute(_) => b"repeated-attribute",
+        QueryFault::NoMemory => b"no-memory",
+    }
+}
+
+/// The number of its token, from 1, or of its byte, from 0, where it has one.
+pub fn query_fault_number(fault: &QueryFault) -> Option<u32>
+    ensures { result ≡ query_fault_number fault.now }
+{
+    match fault {
+        QueryFault::BadByte(number)
+        | QueryFault::OpenString(number)
+        | QueryFault::Syntax(number)
+        | QueryFault::UnknownVariable(number)
+        | QueryFault::RepeatedVariable(number)
+        | QueryFault::LiteralPast(number)
+        | QueryFault::WrongTag(number)
+        | QueryFault::RepeatedAttribute(number) => Some(*number),
+        QueryFault::TooLong
+        | QueryFault::TooNested
+        | QueryFault::TooManyNodes
+        | QueryFault::TooManyVariables
+        | QueryFault::NoMemory => None,
     }
 }
 

@@ -1,9 +1,9 @@
 //! The commands of `timber`: from the words of a command line, a source and a sink to a status.
 //!
-//! Main calls `settle`, which does `single` and `check` for scripts whose queries are of two names.
-//! Its one clause, `Settled`, says by the status what was read and what was written, and rests on
-//! the definitions of naive witnesses in the `specs/` of `tb_pattern`, and of histories, runs and
-//! transcripts in its own.
+//! Main calls `settle`, which does `single` and `check` for scripts whose queries are of two names, or
+//! have a fault. Its one clause, `Settled`, says by the status what was read and what was written,
+//! and rests on the definitions of naive witnesses in the `specs/` of `tb_pattern`, of the faults of
+//! queries in those of `tb_flwor`, and of histories, runs and transcripts in its own.
 #![tactic(auto)]
 
 mod answering;
@@ -18,6 +18,7 @@ mod outcome;
 mod pieces;
 mod printer;
 mod query;
+mod refusal;
 mod running;
 mod single;
 mod status;

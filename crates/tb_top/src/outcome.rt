@@ -1,10 +1,10 @@
 //! What a script comes to, before anything is written.
 
-ghost use Rattle.std.specs.Prelude.{◌≡◌, ◌≤◌, IfOk, length};
-ghost use Rattle.std.specs.List.{list_all};
+ghost use Rattle.std.specs.Prelude.{◌≡◌, ◌≤◌, ◌↔◌, IsTrue, IfOk, length, map};
+ghost use Rattle.std.specs.List.{AllByRecursion};
+ghost use Rattle.tb_script.specs.declared.command.Command.TheVariants as command;
 ghost use Rattle.tb_script.specs.Runnable.{IsRunnable};
-ghost use Rattle.tb_top.specs.Single.{AreBuilt};
-ghost use Rattle.tb_top.specs.Queries.{is_built};
+ghost use Rattle.tb_top.specs.Single.{IsBuilt, AreBuilt};
 ghost use Rattle.tb_top.specs.Calls.{IsOutput};
 ghost use Rattle.tb_top.specs.Outcomes.{ComesTo, IsFaulty};
 ghost use Rattle.tb_top.specs.Pieces.{joined};
@@ -12,6 +12,7 @@ ghost use Rattle.tb_top.specs.Pieces.{joined};
 use crate::check::check;
 use crate::fault_text::push_script_fault;
 use crate::query::query_in;
+use crate::refusal::query_fault_in;
 use crate::single::transcript;
 use crate::task::Task;
 use std::alloc::{AllocError, Global};
@@ -24,7 +25,7 @@ pub enum Outcome {
     Text(Vec<Vec<u8>>),
     /// The script has a fault; with the line that says so.
     Faulty(ScriptFault, Vec<u8>),
-    /// A query has a text that isn't built.
+    /// A query has a text that isn't built, and no fault.
     NotBuilt,
 }
 
@@ -39,7 +40,8 @@ pub fn outcome_of(alloc: Global, task: Task, bytes: Vec<u8>) -> Result<Outcome, 
     };
     // The commands have copies of what they need.
     drop(bytes);
-    if !are_built(&w.sessions) {
+    let built = are_built(alloc, &w.sessions)?;
+    if !built {
         return Ok(Outcome::NotBuilt);
     }
     let text = output(alloc, task, &w)?;
@@ -82,29 +84,44 @@ fn faulty(alloc: Global, fault: ScriptFault) -> Result<Outcome, AllocError>
     Ok(Outcome::Faulty(fault, line))
 }
 
-/// Whether all queries have the text that is built.
-fn are_built(sessions: &[Script]) -> bool
-    ensures { result ≡ list_all (λ s. list_all is_built s.commands.items) sessions.now }
+/// Whether all queries have the text that is built, or one that is refused.
+fn are_built(alloc: Global, sessions: &[Script]) -> Result<bool, AllocError>
+    ensures { IfOk result (λ built. IsTrue built
+        ↔ AllByRecursion (AllByRecursion IsBuilt) (map (λ s. s.commands.items) sessions.now)) }
 {
     'sessions: for script in sessions {
-        if !are_built_in(&script.commands) {
-            return false;
+        if !are_built_in(alloc, &script.commands)? {
+            return Ok(false);
         }
     }
-    true
+    Ok(true)
 }
 
-fn are_built_in(commands: &[Command]) -> bool
-    ensures { result ≡ list_all is_built commands.now }
+fn are_built_in(alloc: Global, commands: &[Command]) -> Result<bool, AllocError>
+    ensures { IfOk result (λ built. IsTrue built ↔ AllByRecursion IsBuilt commands.now) }
 {
-    commands.iter().all(|command| is_built(command))
+    'commands: for command in commands {
+        if !is_built(alloc, command)? {
+            return Ok(false);
+        }
+    }
+    Ok(true)
 }
 
-fn is_built(command: &Command) -> bool
-    ensures { result ≡ is_built command.now }
+fn is_built(alloc: Global, command: &Command) -> Result<bool, AllocError>
+    ensures { IfOk result (λ built. IsTrue built ↔ IsBuilt command.now) }
 {
     match command {
-        Command::Query { text } => query_in(text.as_slice()).is_some(),
-        _ => true,
+        Command::Query { text } => is_built_text(alloc, text.as_slice()),
+        _ => Ok(true),
+    }
+}
+
+fn is_built_text(alloc: Global, text: &[u8]) -> Result<bool, AllocError>
+    ensures { IfOk result (λ built. IsTrue built ↔ IsBuilt (command.Query text.now)) }
+{
+    match query_fault_in(alloc, text)? {
+        Some(_) => Ok(true),
+        None => Ok(query_in(text).is_some()),
     }
 }

@@ -3,17 +3,18 @@
 ghost use Rattle.std.specs.Prelude.{◌≡◌, ◌++◌, OnOk, decimal, codes};
 ghost use Rattle.std.specs.List.{flat_map};
 ghost use Rattle.tb_top.specs.Pairs.{answer_by};
-ghost use Rattle.tb_top.specs.Transcript.{load_line, refused_line, answered_line, query_block, history_line};
-ghost use Rattle.tb_top.specs.FaultText.{esis_fault_text};
+ghost use Rattle.tb_top.specs.Transcript.{load_line, refused_line, refused_query_line, answered_line, query_block, history_line};
+ghost use Rattle.tb_top.specs.FaultText.{esis_fault_text, query_fault_text, number_text};
 ghost use Rattle.tb_top.specs.Running.{begun, named_line};
 ghost use Rattle.tb_top.specs.Kept.{change_in};
 
-use crate::fault_text::{esis_fault_line, esis_fault_name};
+use crate::fault_text::{esis_fault_line, esis_fault_name, query_fault_name, query_fault_number};
 use crate::history::Change;
 use crate::matching::Match;
 use itoa::Buffer;
 use std::alloc::AllocError;
 use tb_esis::EsisFault;
+use tb_flwor::QueryFault;
 
 /// Appends a number in decimal.
 pub fn push_number(number: u64, text: &mut Vec<u8>) -> Result<(), AllocError>
@@ -103,6 +104,40 @@ pub fn push_esis_fault(fault: &EsisFault, text: &mut Vec<u8>) -> Result<(), Allo
     text.extend_from_slice(esis_fault_name(fault))?;
     text.push(b' ')?;
     push_number(u64::from(esis_fault_line(fault)), text)
+}
+
+/// Appends the line of a query whose text has the fault.
+pub fn push_refused_query_line(
+    number: u64,
+    fault: &QueryFault,
+    text: &mut Vec<u8>,
+) -> Result<(), AllocError>
+    ensures { OnOk result (text.new.items ≡ text.old.items ++ refused_query_line number fault.now) }
+{
+    push_number(number, text)?;
+    text.extend_from_slice(b" query refused ")?;
+    push_query_fault(fault, text)?;
+    text.push(b'\n')?;
+    Ok(())
+}
+
+/// Appends a fault of a query's text, and its number.
+fn push_query_fault(fault: &QueryFault, text: &mut Vec<u8>) -> Result<(), AllocError>
+    ensures { OnOk result (text.new.items ≡ text.old.items ++ query_fault_text fault.now) }
+{
+    text.extend_from_slice(query_fault_name(fault))?;
+    push_fault_number(query_fault_number(fault), text)
+}
+
+/// Appends the number of a fault that has one.
+fn push_fault_number(number: Option<u32>, text: &mut Vec<u8>) -> Result<(), AllocError>
+    ensures { OnOk result (text.new.items ≡ text.old.items ++ number_text number) }
+{
+    let Some(number) = number else {
+        return Ok(());
+    };
+    text.push(b' ')?;
+    push_number(u64::from(number), text)
 }
 
 /// Appends the block of a query: command `number` was answered over the first `front` changes, by a

@@ -10,6 +10,8 @@ ghost use Rattle.tb_esis.specs.Faults.{fault_of};
 ghost use Rattle.tb_core.specs.World.{IsAllowed, answer, after, told_at};
 ghost use Rattle.tb_script.specs.declared.command.Command.TheVariants as command;
 ghost use Rattle.tb_script.specs.Runnable.{IsRunnable};
+ghost use Rattle.tb_top.specs.QueryText.{HasQuery};
+ghost use Rattle.tb_top.specs.QueryFaults.{IsFaultOf};
 ghost use Rattle.tb_top.specs.Single.{IsBuilt, world_of};
 ghost use Rattle.std.specs.List.{range_with_len};
 ghost use Rattle.tb_top.specs.Running.{progress_of, at_start, begun, Stands, IsReadyFor, Does};
@@ -18,11 +20,15 @@ ghost use Rattle.tb_top.specs.Kept.{IsKept};
 use crate::answering::push_answer;
 use crate::counts::loads_in;
 use crate::history::History;
-use crate::printer::{push_front_line, push_load_line, push_refused_line, push_session_line};
+use crate::printer::{
+    push_front_line, push_load_line, push_refused_line, push_refused_query_line, push_session_line,
+};
 use crate::query::query_in;
+use crate::refusal::query_fault_in;
 use std::alloc::{AllocError, Global};
 use tb_core::{Event, World};
 use tb_esis::{EsisFault, read_tree};
+use tb_flwor::QueryFault;
 use tb_label::Store;
 use tb_script::{Command, Turnstep, Workload};
 use tb_tree::{Bytes, Tree};
@@ -106,6 +112,34 @@ impl Running {
         requires kept { IsKept self.old.history }
         requires stands { Stands (progress_of self.old) step }
         requires ready { IsBuilt (command.Query text.now) }
+        ensures does { OnOk result
+            (Does step (command.Query text.now) (progress_of self.old) (progress_of self.new)) }
+        ensures kept { OnOk result (IsKept self.new.history) }
+    {
+        match query_fault_in(self.alloc, text)? {
+            Some(fault) => self.refuse_query(step, &fault),
+            None => self.answer(step, text),
+        }
+    }
+
+    fn refuse_query(&mut self, step: Turnstep, fault: &QueryFault) -> Result<(), AllocError>
+        requires kept { IsKept self.old.history }
+        requires stands { Stands (progress_of self.old) step }
+        ensures does { OnOk result ((text : List ℕ) → IsFaultOf text (Some fault.now)
+            → Does step (command.Query text) (progress_of self.old) (progress_of self.new)) }
+        ensures kept { OnOk result (IsKept self.new.history) }
+    {
+        let part = &mut self.parts[step.session as usize];
+        push_refused_query_line(number_in(step), fault, part)?;
+        Ok(())
+    }
+
+    /// Answers a query whose text has no fault.
+    fn answer(&mut self, step: Turnstep, text: &[u8]) -> Result<(), AllocError>
+        requires kept { IsKept self.old.history }
+        requires stands { Stands (progress_of self.old) step }
+        requires faultless { IsFaultOf text.now None }
+        requires built { HasQuery text.now }
         ensures does { OnOk result
             (Does step (command.Query text.now) (progress_of self.old) (progress_of self.new)) }
         ensures kept { OnOk result (IsKept self.new.history) }

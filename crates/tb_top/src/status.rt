@@ -21,7 +21,7 @@ pub enum Status {
     WriteFault,
     /// There was no memory.
     Memory,
-    /// The script has a query whose text isn't built.
+    /// The script has a query whose text has no fault and isn't built.
     NotBuilt,
 }
 

@@ -12,6 +12,7 @@ use tb_script::ScriptFault;
 mod labels;
 mod matchings;
 mod plain;
+mod refusals;
 mod rows;
 mod stores;
 
@@ -22,10 +23,22 @@ const MARKS: &[u8] =
 const MARKS_TRANSCRIPT: &[u8] =
     b"session 1\n1 load a at 1\n2 tell m front 1\nend\nsession 2\n1 hear m front 1\n2 query front 1 trees 0\n.\nend\nhistory 1\n1 session 1 change 1 load a\nok\n";
 
-const UNBUILT: &[u8] = b"session\nquery\nFOR\n.\n";
+// A query that is one, but not of the form that is built.
+const UNBUILT: &[u8] = b"session\nquery\nFOR $x IN document(\"d\")//x RETURN $x\n.\n";
 
 // Bytes that a source gives at a call, and that a sink takes.
 const STEP: usize = 16;
+
+// Each text so many times, one behind the other.
+fn repeated(alloc: Global, texts: &[(&[u8], usize)]) -> Result<Vec<u8>, AllocError> {
+    let mut all = Vec::new(alloc);
+    for (text, times) in texts {
+        for _ in 0..*times {
+            all.extend_from_slice(text)?;
+        }
+    }
+    Ok(all)
+}
 
 fn words_of(alloc: Global, given: &[&str]) -> Result<Vec<String>, AllocError> {
     let mut words = Vec::new(alloc);

@@ -1,21 +1,10 @@
 //! The worked rows: scripts, and what is printed of them.
 
-use super::{MARKS, MARKS_TRANSCRIPT, UNBUILT, settled};
+use super::{MARKS, MARKS_TRANSCRIPT, UNBUILT, repeated, settled};
 use crate::Status;
 use std::alloc::{AllocError, Global};
 use std::test::Fail;
 use tb_script::ScriptFault;
-
-// Each text so many times, one behind the other.
-fn repeated(alloc: Global, texts: &[(&[u8], usize)]) -> Result<Vec<u8>, AllocError> {
-    let mut all = Vec::new(alloc);
-    for (text, times) in texts {
-        for _ in 0..*times {
-            all.extend_from_slice(text)?;
-        }
-    }
-    Ok(all)
-}
 
 const NESTED: &[u8] =
     b"session\nload n\n(a\n(a\n(a\n)a\n)a\n)a\n.\nquery\nMATCH document(\"n\") (//- a (//- a))\n.\n";

@@ -1,7 +1,7 @@
 -- The refusals, and then the counts.
-use Rattle.std.proofs.Common.{◌++◌, length, map, sym, ap, ap₂, ◌∙◌, append_assoc}
+use Rattle.std.proofs.Common.{◌++◌, length, map, refl, sym, ap, ap₂, ◌∙◌, append_assoc}
 use Rattle.std.proofs.lemmas.List.{length-map}
-use Rattle.tb_top.specs.Check.{refusals_in, counts_line}
+use Rattle.tb_top.specs.Check.{counts_line, counts_of}
 use Rattle.tb_top.proofs.check.check_sessions.Goals as goal
 
 pub returns : goal.returns
@@ -10,7 +10,11 @@ returns c =
     let css = map (λ s. s.commands.items) sessions in
     let old = c.args.text.now.items in
     let line = counts_line (length sessions) c.commands_in-commands.result c.loads_in-loads.result c.queries_in-queries.result in
-    c.in_ok-push_counts.ensures ∙ ap (λ t. t ++ line) c.in_ok-push_refusals.ensures ∙ append_assoc old (refusals_in 1 css) line
-    ∙ ap (λ l. old ++ (refusals_in 1 css ++ l))
-    (ap₂ (λ a b. counts_line a b c.loads_in-loads.result c.queries_in-queries.result) (sym (length-map sessions (λ s. s.commands.items))) c.commands_in-commands.ensures
-    ∙ ap₂ (counts_line (length css) _) c.loads_in-loads.ensures c.queries_in-queries.ensures)
+    let refusals = c.in_ok-push_refusals.ensures in (
+      refusals.0 ++ counts_of css,
+      (refusals.0, refusals.1, refl),
+      c.in_ok-push_counts.ensures ∙ ap (λ t. t ++ line) refusals.2 ∙ append_assoc old refusals.0 line
+          ∙ ap (λ l. old ++ (refusals.0 ++ l))
+          (ap₂ (λ a b. counts_line a b c.loads_in-loads.result c.queries_in-queries.result) (sym (length-map sessions (λ s. s.commands.items))) c.commands_in-commands.ensures
+          ∙ ap₂ (counts_line (length css) _) c.loads_in-loads.ensures c.queries_in-queries.ensures),
+    )
