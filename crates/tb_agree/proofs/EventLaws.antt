@@ -1,5 +1,5 @@
 -- The variables of a query's tokens are those of its tree.
-use Rattle.std.proofs.Common.{◌≡◌, ℕ, Bool, true, false, cond, ◌&&◌, ◌||◌, ◌==◌, List, [], ◌∷◌, ◌++◌, map, Some, refl, sym, ap, ◌∙◌, append_assoc, append-nil, arith}
+use Rattle.std.proofs.Common.{◌≡◌, ℕ, Bool, true, false, cond, ◌&&◌, ◌==◌, List, [], ◌∷◌, ◌++◌, map, Some, refl, sym, ap, ◌∙◌, append_assoc, append-nil}
 use Rattle.std.specs.Prelude.{codes}
 use Rattle.std.proofs.lemmas.Bool.{and_parts}
 use Rattle.tb_grammar.specs.Grammar.{Tok, Part, one, both, either, maybe, many, has}
@@ -19,7 +19,7 @@ use Rattle.tb_scope.specs.Variables.{is_variable, binds, bound, is_known, begins
 use Rattle.tb_agree.specs.Results.{tokens_of}
 use Rattle.tb_agree.specs.Events as event
 use Rattle.tb_agree.specs.Events.{Event, names_of, unknown_after, repeated_after, used, owned, bound_by, in_path, in_own_path, in_longpath, in_operand, in_bind, in_binds, in_clause, in_clauses, in_right, in_cond, in_more_conds, in_conds, in_group, in_key, in_more_keys, in_keys, in_braced, in_content, in_attrs, in_cons, in_cons_rest, in_tail, in_pieces, in_piece, in_back, in_flwor, VariablesAgree}
-use Rattle.tb_agree.proofs.ResultLaws.{tokens-derived}
+use Rattle.tb_agree.proofs.TokenLaws.{tokens-derived, swapped, only-letter, second-of}
 
 -- the events of tokens, where the token before them has this letter
 
@@ -71,16 +71,6 @@ raw-unknown b known [] = refl
 raw-unknown b known (t ∷ s) = unknown-by (is_variable t.letter) (binds s) (begins_path b) known t s (λ ns. raw-unknown t.letter ns s)
 
 -- Trees part by part.
-
-swapped : (x y : ℕ) → (x == y) ≡ (y == x)
-swapped x y = grind arith
-
-only-letter : (x y : ℕ) → (x == y || false) ≡ true → (y == x) ≡ true
-only-letter x y e = by (x == y) refl e
-  where
-    by : (b : Bool) → (x == y) ≡ b → (b || false) ≡ true → (y == x) ≡ true
-    by true f g = swapped y x ∙ f
-    by false f g = none-true false refl g
 
 -- the first token is a variable
 abbrev var_first : List Tok → Bool
@@ -497,9 +487,6 @@ flwor-has (of_both {v = c} c_is (of_both {v = m} m_is (of_both {v = w} w_is (of_
     (has-pair (in_conds w) es_g w (pair g (pair o returned)) (where-has w_is)
     (has-pair (in_group g) es_o g (pair o returned) (group-has g_is)
     (has-pair (in_keys o) (in_back b) o returned (order-has o_is) (lead-pair (in_back b) r t b refl refl h (back-has b_is)) free_r) free_o) free_g) free_w) free_m
-
-second-of : {p q : Part} {v : Tree} → Of (either p q) (second v) → Of q v
-second-of (of_second f) = f
 
 flwor-events : (s : List Tok) (v : Tree) → Derives rules (query ∷ []) (second v ∷ []) s → raw 0 s ≡ in_flwor v
 flwor-events s v d = ap (raw 0) (tokens-derived d) ∙ flwor-has (second-of (derived-of d).0) [] (refl, refl) ∙ append-nil (in_flwor v)

@@ -1,2 +1,3 @@
+pub mod TokenLaws
 pub mod ResultLaws
 pub mod EventLaws

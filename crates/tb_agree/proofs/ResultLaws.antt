@@ -1,10 +1,10 @@
 -- The tokens behind the word RETURN are those of what the tree returns: in the clauses before it every
 -- other such word is a name, directly behind an axis or `@`.
-use Rattle.std.proofs.Common.{◌≡◌, ℕ, Bool, true, false, cond, ◌&&◌, ◌||◌, ◌==◌, not, List, [], ◌∷◌, ◌++◌, refl, sym, ap, ◌∙◌, append_assoc, append-nil, arith}
+use Rattle.std.proofs.Common.{◌≡◌, ℕ, true, false, cond, ◌&&◌, ◌||◌, ◌==◌, not, List, [], ◌∷◌, ◌++◌, refl, ap, ◌∙◌, append_assoc, append-nil}
 use Rattle.std.specs.Prelude.{codes}
 use Rattle.std.proofs.lemmas.Bool.{and_parts}
 use Rattle.tb_grammar.specs.Grammar.{Tok, Part, both, either, maybe, many, has}
-use Rattle.tb_grammar.specs.Words.{Tree, leaf, pair, second, Derives, at_end, by_one, by_both, by_first, by_second, left_out, put_in, no_more, one_more, by_rule}
+use Rattle.tb_grammar.specs.Words.{Tree, leaf, pair}
 use Rattle.tb_grammar.specs.Decided.{are_apart}
 use Rattle.tb_grammar.proofs.LetterLaws.{none-true, or-false, and-false, has-left, has-right, apart-none}
 use Rattle.tb_token.specs.Letters.{letter_of}
@@ -18,27 +18,7 @@ use Rattle.tb_pattern.specs.BuiltParts.{attribute}
 use Rattle.tb_pattern.proofs.PartLaws.{Of, of_one, of_both, of_first, of_second, of_nothing, of_put, of_none, of_more, of_rule, derived-of, lacks}
 use Rattle.tb_scope.specs.Constructors.{before_name, behind_return, results}
 use Rattle.tb_agree.specs.Results.{tokens_of, back_tree, ResultsAgree}
-
--- the tokens of trees, one tree after the other
-abbrev all_tokens : List Tree → List Tok
-all_tokens [] = []
-all_tokens (v ∷ vs) = tokens_of v ++ all_tokens vs
-
-regroup : (v w : Tree) (vs : List Tree) → tokens_of v ++ (tokens_of w ++ all_tokens vs) ≡ (tokens_of v ++ tokens_of w) ++ all_tokens vs
-regroup v w vs = sym (append_assoc (tokens_of v) (tokens_of w) (all_tokens vs))
-
--- a list has the tokens of its trees
-pub tokens-derived : {ps : List Part} {vs : List Tree} {s : List Tok} → Derives rules ps vs s → s ≡ all_tokens vs
-tokens-derived at_end = refl
-tokens-derived (by_one {t = t} h d) = ap (λ u. t ∷ u) (tokens-derived d)
-tokens-derived (by_both {v = v} {w = w} {vs = vs} d) = tokens-derived d ∙ regroup v w vs
-tokens-derived (by_first d) = tokens-derived d
-tokens-derived (by_second d) = tokens-derived d
-tokens-derived (left_out d) = tokens-derived d
-tokens-derived (put_in d) = tokens-derived d
-tokens-derived (no_more d) = tokens-derived d
-tokens-derived (one_more {v = v} {w = w} {vs = vs} d) = tokens-derived d ∙ regroup v w vs
-tokens-derived (by_rule {t = t} {v = v} {vs = vs} h d) = ap (λ u. t ∷ u) (tokens-derived d)
+use Rattle.tb_agree.proofs.TokenLaws.{tokens-derived, swapped, only-letter, second-of}
 
 -- Before a name every word is a name.
 
@@ -47,9 +27,6 @@ name_signs = letter_of Sign (codes "/") ∷ letter_of Sign (codes "//") ∷ lett
 
 abbrev special : List ℕ
 special = letter_of Word (codes "RETURN") ∷ name_signs
-
-swapped : (x y : ℕ) → (x == y) ≡ (y == x)
-swapped x y = grind arith
 
 same-before : (b : ℕ) (s : List Tok) → before_name b ≡ false → behind_return b s ≡ behind_return 0 s
 same-before b [] e = refl
@@ -192,13 +169,6 @@ order-calm (of_put (of_both {v = a} {w = b} f (of_both {v = c} {w = e} g (of_bot
 return-here : (t : Tok) (s : List Tok) → (t.letter == letter_of Word (codes "RETURN")) ≡ true → behind_return 0 (t ∷ s) ≡ s
 return-here t s e = ap (λ x. cond (x && true) s (behind_return t.letter s)) e
 
-only-letter : (x y : ℕ) → (x == y || false) ≡ true → (y == x) ≡ true
-only-letter x y e = by (x == y) refl e
-  where
-    by : (b : Bool) → (x == y) ≡ b → (b || false) ≡ true → (y == x) ≡ true
-    by true f g = swapped y x ∙ f
-    by false f g = none-true false refl g
-
 skip : (v : Tree) (u rest : List Tok) → Calm v → behind_return 0 ((tokens_of v ++ u) ++ rest) ≡ behind_return 0 (u ++ rest)
 skip v u rest calm = ap (behind_return 0) (append_assoc (tokens_of v) u rest) ∙ calm (u ++ rest)
 
@@ -212,9 +182,6 @@ flwor-results (of_both {v = c} c_is (of_both {v = m} m_is (of_both {v = w} w_is 
     same-before (letter_of Word (codes "FOR")) ((tokens_of c ++ others) ++ []) refl ∙ skip c others [] (clause-calm c_is) ∙ skip m kept [] (more-clauses m_is) ∙ skip w grouped [] (where-calm w_is)
     ∙ skip g ordered [] (group-calm g_is) ∙ skip o returned [] (order-calm o_is)
     ∙ return-here t (tokens_of b ++ []) (only-letter (letter_of Word (codes "RETURN")) t.letter h) ∙ append-nil (tokens_of b)
-
-second-of : {p q : Part} {v : Tree} → Of (either p q) (second v) → Of q v
-second-of (of_second f) = f
 
 -- so it is of every query of clauses
 pub results-agree : ResultsAgree
