@@ -2,18 +2,18 @@
 use Rattle.std.proofs.Common.{◌≡◌, ℕ, Bool, true, false, cond, ◌&&◌, ◌==◌, List, [], ◌∷◌, ◌++◌, map, Some, refl, sym, ap, ◌∙◌, append_assoc, append-nil}
 use Rattle.std.specs.Prelude.{codes}
 use Rattle.std.proofs.lemmas.Bool.{and_parts}
-use Rattle.tb_grammar.specs.Grammar.{Tok, Part, one, both, either, maybe, many, has}
-use Rattle.tb_grammar.specs.Words.{Tree, leaf, pair, first, second, Derives}
-use Rattle.tb_grammar.specs.Decided.{are_apart}
-use Rattle.tb_grammar.proofs.LetterLaws.{none-true, or-false, has-left, has-right, apart-none}
-use Rattle.tb_token.specs.Letters.{letter_of}
-use Rattle.tb_token.specs.Terminals.{word, sign, name, string, comma}
-use Rattle.tb_token.specs.Patterns.{literal}
-use Rattle.tb_token.specs.Paths.{step, steps, longpath, path, operand}
-use Rattle.tb_token.specs.Results.{cons, braced, attr, piece, cons_rest, back}
-use Rattle.tb_token.specs.Queries.{rules, query, flwor, bind, clause, where_part, group, key, order}
-use Rattle.tb_token.specs.Queries as part
-use Rattle.tb_token.specs.declared.token.Kind.TheVariants.{Word, Sign, Variable}
+use Rattle.tb_token.specs.grammar.Grammar.{Tok, Part, one, both, either, maybe, many, has}
+use Rattle.tb_token.specs.grammar.Words.{Tree, leaf, pair, first, second, Derives}
+use Rattle.tb_token.specs.grammar.Decided.{are_apart}
+use Rattle.tb_token.proofs.grammar.LetterLaws.{none-true, or-false, has-left, has-right, apart-none}
+use Rattle.tb_token.specs.tokens.Letters.{letter_of}
+use Rattle.tb_token.specs.grammar.Terminals.{word, sign, name, string, comma}
+use Rattle.tb_token.specs.grammar.Patterns.{literal}
+use Rattle.tb_token.specs.grammar.Paths.{step, steps, longpath, path, operand}
+use Rattle.tb_token.specs.grammar.Results.{cons, braced, attr, piece, cons_rest, back}
+use Rattle.tb_token.specs.grammar.Queries.{rules, query, flwor, bind, clause, where_part, group, key, order}
+use Rattle.tb_token.specs.grammar.Queries as part
+use Rattle.tb_token.specs.declared.lexer.token.Kind.TheVariants.{Word, Sign, Variable}
 use Rattle.tb_pattern.proofs.PartLaws.{Of, of_one, of_both, of_first, of_second, of_nothing, of_put, of_none, of_more, of_rule, derived-of, lacks}
 use Rattle.tb_scope.specs.Variables.{is_variable, binds, bound, is_known, begins_path, repeated_behind, unknown_behind}
 use Rattle.tb_agree.specs.Results.{tokens_of}

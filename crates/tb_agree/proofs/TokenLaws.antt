@@ -1,9 +1,9 @@
 -- A list has the tokens of its trees; and two laws on one letter.
 use Rattle.std.proofs.Common.{◌≡◌, ℕ, Bool, true, false, ◌||◌, ◌==◌, List, [], ◌∷◌, ◌++◌, refl, sym, ap, ◌∙◌, append_assoc, arith}
-use Rattle.tb_grammar.specs.Grammar.{Tok, Part, either}
-use Rattle.tb_grammar.specs.Words.{Tree, second, Derives, at_end, by_one, by_both, by_first, by_second, left_out, put_in, no_more, one_more, by_rule}
-use Rattle.tb_grammar.proofs.LetterLaws.{none-true}
-use Rattle.tb_token.specs.Queries.{rules}
+use Rattle.tb_token.specs.grammar.Grammar.{Tok, Part, either}
+use Rattle.tb_token.specs.grammar.Words.{Tree, second, Derives, at_end, by_one, by_both, by_first, by_second, left_out, put_in, no_more, one_more, by_rule}
+use Rattle.tb_token.proofs.grammar.LetterLaws.{none-true}
+use Rattle.tb_token.specs.grammar.Queries.{rules}
 use Rattle.tb_pattern.proofs.PartLaws.{Of, of_second}
 use Rattle.tb_agree.specs.Results.{tokens_of}
 

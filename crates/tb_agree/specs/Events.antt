@@ -1,9 +1,9 @@
 -- The variables of a query of clauses, in its tree: where they are bound and used, in the order of the
 -- text.
 use Rattle.std.specs.Prelude.{◌≡◌, ℕ, ◌-◌, if◌then◌else◌, List, [], ◌∷◌, ◌++◌, length, take, Option, Some, None}
-use Rattle.tb_grammar.specs.Grammar.{Tok}
-use Rattle.tb_grammar.specs.Words.{Tree, leaf, pair, first, second, Derives}
-use Rattle.tb_token.specs.Queries.{rules, query}
+use Rattle.tb_token.specs.grammar.Grammar.{Tok}
+use Rattle.tb_token.specs.grammar.Words.{Tree, leaf, pair, first, second, Derives}
+use Rattle.tb_token.specs.grammar.Queries.{rules, query}
 use Rattle.tb_scope.specs.Variables.{is_known, bound, first_repeated, first_unknown}
 
 pub data Event : Type 0 where

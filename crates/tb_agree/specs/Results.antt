@@ -1,8 +1,8 @@
 -- What a query of clauses returns, in its tokens and in its tree.
 use Rattle.std.specs.Prelude.{◌≡◌, List, [], ◌∷◌, ◌++◌}
-use Rattle.tb_grammar.specs.Grammar.{Tok}
-use Rattle.tb_grammar.specs.Words.{Tree, leaf, nothing, pair, first, second, Derives}
-use Rattle.tb_token.specs.Queries.{rules, query}
+use Rattle.tb_token.specs.grammar.Grammar.{Tok}
+use Rattle.tb_token.specs.grammar.Words.{Tree, leaf, nothing, pair, first, second, Derives}
+use Rattle.tb_token.specs.grammar.Queries.{rules, query}
 use Rattle.tb_scope.specs.Constructors.{results}
 
 -- the tokens of a tree, in their order

@@ -1,13 +1,13 @@
 -- Clauses are built one after the other, and each from its bindings.
 use Rattle.std.proofs.Common.{◌≡◌, ℕ, Bool, true, false, ◌-◌, ◌≤◌, List, [], ◌∷◌, ◌++◌, length, drop, refl, sym, ap, ◌∙◌, append_assoc, append-nil, arith, length-drop}
 use Rattle.std.specs.Prelude.{codes}
-use Rattle.tb_grammar.specs.Grammar.{Tok, Part, both, maybe, many}
-use Rattle.tb_grammar.specs.Words.{Tree, nothing, pair, first, second}
-use Rattle.tb_token.specs.Letters.{letter_of, place_in}
-use Rattle.tb_token.specs.Terminals.{word, sign, variable, list_of, comma}
-use Rattle.tb_token.specs.Paths.{longpath}
-use Rattle.tb_token.specs.Queries.{bind, clause}
-use Rattle.tb_token.specs.declared.token.Kind.TheVariants as kind
+use Rattle.tb_token.specs.grammar.Grammar.{Tok, Part, both, maybe, many}
+use Rattle.tb_token.specs.grammar.Words.{Tree, nothing, pair, first, second}
+use Rattle.tb_token.specs.tokens.Letters.{letter_of, place_in}
+use Rattle.tb_token.specs.grammar.Terminals.{word, sign, variable, list_of, comma}
+use Rattle.tb_token.specs.grammar.Paths.{longpath}
+use Rattle.tb_token.specs.grammar.Queries.{bind, clause}
+use Rattle.tb_token.specs.declared.lexer.token.Kind.TheVariants as kind
 use Rattle.tb_pattern.specs.Value.{bytes_in, is_there}
 use Rattle.tb_pattern.specs.Building.{next, begins, Builds}
 use Rattle.tb_pattern.proofs.BuildingLaws.{one-builds, Both, both-builds, builds-as, First, Second, first-builds, second-builds, put_in-builds, left_out-builds}

@@ -1,16 +1,16 @@
 -- Conditions are built one after the other, and each from its operands.
 use Rattle.std.proofs.Common.{◌≡◌, ℕ, Bool, true, false, ◌≤◌, List, [], ◌∷◌, ◌++◌, length, drop, refl, sym, ap, ◌∙◌, append_assoc, append-nil, arith, length-drop}
 use Rattle.std.specs.Prelude.{codes}
-use Rattle.tb_grammar.specs.Grammar.{Tok, Part, both, either, maybe, many, has}
-use Rattle.tb_grammar.specs.Words.{Tree, leaf, nothing, pair, second, by_one, by_both, by_second}
-use Rattle.tb_grammar.specs.Reading.{own_starts}
-use Rattle.tb_grammar.proofs.PlaceLaws.{read-both, read-second, read-one}
-use Rattle.tb_token.specs.Letters.{letter_of}
-use Rattle.tb_token.specs.Terminals.{word, list_of}
-use Rattle.tb_token.specs.Patterns.{cmp, literal}
-use Rattle.tb_token.specs.Paths.{operand}
-use Rattle.tb_token.specs.Queries.{rules, cond, where_part}
-use Rattle.tb_token.specs.declared.token.Kind.TheVariants as kind
+use Rattle.tb_token.specs.grammar.Grammar.{Tok, Part, both, either, maybe, many, has}
+use Rattle.tb_token.specs.grammar.Words.{Tree, leaf, nothing, pair, second, by_one, by_both, by_second}
+use Rattle.tb_token.specs.grammar.Reading.{own_starts}
+use Rattle.tb_token.proofs.grammar.PlaceLaws.{read-both, read-second, read-one}
+use Rattle.tb_token.specs.tokens.Letters.{letter_of}
+use Rattle.tb_token.specs.grammar.Terminals.{word, list_of}
+use Rattle.tb_token.specs.grammar.Patterns.{cmp, literal}
+use Rattle.tb_token.specs.grammar.Paths.{operand}
+use Rattle.tb_token.specs.grammar.Queries.{rules, cond, where_part}
+use Rattle.tb_token.specs.declared.lexer.token.Kind.TheVariants as kind
 use Rattle.tb_pattern.specs.Letters.{cmp_letters}
 use Rattle.tb_pattern.specs.Value.{op_of}
 use Rattle.tb_pattern.specs.Building.{next, begins, Come, IsBuilt, Builds, BuildsApart}

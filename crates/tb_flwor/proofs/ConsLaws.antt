@@ -1,13 +1,13 @@
 -- Constructors are built from their attributes and their parts.
 use Rattle.std.proofs.Common.{◌≡◌, ℕ, true, false, ◌-◌, ◌≤◌, List, [], ◌∷◌, ◌++◌, map, length, drop, refl, sym, ap, ◌∙◌, append_assoc, append-nil, arith}
 use Rattle.std.specs.Prelude.{codes}
-use Rattle.tb_grammar.specs.Grammar.{Tok, Part, both, either, many}
-use Rattle.tb_grammar.specs.Words.{Tree, nothing, pair, second}
-use Rattle.tb_token.specs.Letters.{letter_of}
-use Rattle.tb_token.specs.Terminals.{sign, name, string}
-use Rattle.tb_token.specs.Paths.{path}
-use Rattle.tb_token.specs.Results.{cons, braced, attr, piece, cons_rest, back}
-use Rattle.tb_token.specs.declared.token.Kind.TheVariants as kind
+use Rattle.tb_token.specs.grammar.Grammar.{Tok, Part, both, either, many}
+use Rattle.tb_token.specs.grammar.Words.{Tree, nothing, pair, second}
+use Rattle.tb_token.specs.tokens.Letters.{letter_of}
+use Rattle.tb_token.specs.grammar.Terminals.{sign, name, string}
+use Rattle.tb_token.specs.grammar.Paths.{path}
+use Rattle.tb_token.specs.grammar.Results.{cons, braced, attr, piece, cons_rest, back}
+use Rattle.tb_token.specs.declared.lexer.token.Kind.TheVariants as kind
 use Rattle.tb_pattern.specs.Letters.{name_letters}
 use Rattle.tb_pattern.specs.Value.{bytes_in}
 use Rattle.tb_pattern.specs.Building.{next, begins, Builds}

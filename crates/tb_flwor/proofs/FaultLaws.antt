@@ -1,9 +1,9 @@
 -- Which faults the tests over tokens give, and what is so where they give none.
 use Rattle.std.proofs.Common.{◌≡◌, ℕ, Bool, true, false, cond, List, Option, Some, None, refl, sym}
 use Rattle.std.specs.Prelude.{⊤, nat_lt, Err}
-use Rattle.tb_grammar.specs.Grammar.{Tok}
-use Rattle.tb_token.specs.Letters.{toks_of}
-use Rattle.tb_token.specs.declared.token.Token.{Token}
+use Rattle.tb_token.specs.grammar.Grammar.{Tok}
+use Rattle.tb_token.specs.tokens.Letters.{toks_of}
+use Rattle.tb_token.specs.declared.lexer.token.Token.{Token}
 use Rattle.tb_pattern.specs.Faults as pattern
 use Rattle.tb_scope.specs.Variables.{clauses_in, first_unknown, first_repeated}
 use Rattle.tb_scope.specs.Constructors.{first_wrong_tag, first_repeated_attribute}

@@ -1,13 +1,13 @@
 -- A query of clauses is built from its parts.
 use Rattle.std.proofs.Common.{◌≡◌, ℕ, List, [], ◌∷◌, drop, sym, ap, ◌∙◌}
 use Rattle.std.specs.Prelude.{codes}
-use Rattle.tb_grammar.specs.Grammar.{Tok, Part, both, maybe, many}
-use Rattle.tb_grammar.specs.Words.{Tree, pair}
-use Rattle.tb_token.specs.Letters.{letter_of}
-use Rattle.tb_token.specs.Terminals.{word}
-use Rattle.tb_token.specs.Queries.{clause, where_part, group, order, flwor}
-use Rattle.tb_token.specs.Results.{back}
-use Rattle.tb_token.specs.declared.token.Kind.TheVariants as kind
+use Rattle.tb_token.specs.grammar.Grammar.{Tok, Part, both, maybe, many}
+use Rattle.tb_token.specs.grammar.Words.{Tree, pair}
+use Rattle.tb_token.specs.tokens.Letters.{letter_of}
+use Rattle.tb_token.specs.grammar.Terminals.{word}
+use Rattle.tb_token.specs.grammar.Queries.{clause, where_part, group, order, flwor}
+use Rattle.tb_token.specs.grammar.Results.{back}
+use Rattle.tb_token.specs.declared.lexer.token.Kind.TheVariants as kind
 use Rattle.tb_pattern.specs.Building.{next, Builds}
 use Rattle.tb_pattern.proofs.BuildingLaws.{one-builds, Both, both-builds, builds-as}
 use Rattle.tb_query.specs.declared.query.Flwor as query

@@ -1,10 +1,10 @@
 -- Tokens ask for one query at most.
 use Rattle.std.proofs.Common.{◌≡◌, List, [], ◌∷◌, sym, ◌∙◌}
-use Rattle.tb_grammar.specs.Grammar.{Tok}
-use Rattle.tb_grammar.specs.Words.{Tree, leaf, nothing, pair, first, second}
-use Rattle.tb_grammar.proofs.TreeLaws.{one-tree}
-use Rattle.tb_token.specs.Queries.{rules, follow}
-use Rattle.tb_token.proofs.QueryLaws.{readable}
+use Rattle.tb_token.specs.grammar.Grammar.{Tok}
+use Rattle.tb_token.specs.grammar.Words.{Tree, leaf, nothing, pair, first, second}
+use Rattle.tb_token.proofs.grammar.TreeLaws.{one-tree}
+use Rattle.tb_token.specs.grammar.Queries.{rules, follow}
+use Rattle.tb_token.proofs.grammar.QueryLaws.{readable}
 use Rattle.tb_query.specs.declared.query.Query.{Query}
 use Rattle.tb_query.specs.declared.query.Query.TheVariants.{Match, Flwor}
 use Rattle.tb_flwor.specs.Asked.{IsOf, AskFor, AreSame}

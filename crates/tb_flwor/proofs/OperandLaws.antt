@@ -1,13 +1,13 @@
 -- Operands are built from their paths.
 use Rattle.std.proofs.Common.{◌≡◌, ℕ, true, false, List, [], ◌∷◌, drop, refl, ap, ◌∙◌}
 use Rattle.std.specs.Prelude.{codes}
-use Rattle.tb_grammar.specs.Grammar.{Tok, Part, both, either}
-use Rattle.tb_grammar.specs.Words.{Tree, pair, second}
-use Rattle.tb_token.specs.Letters.{letter_of}
-use Rattle.tb_token.specs.Terminals.{sign, string}
-use Rattle.tb_token.specs.Paths.{agg, operand, path}
-use Rattle.tb_token.specs.Results.{braced}
-use Rattle.tb_token.specs.declared.token.Kind.TheVariants as kind
+use Rattle.tb_token.specs.grammar.Grammar.{Tok, Part, both, either}
+use Rattle.tb_token.specs.grammar.Words.{Tree, pair, second}
+use Rattle.tb_token.specs.tokens.Letters.{letter_of}
+use Rattle.tb_token.specs.grammar.Terminals.{sign, string}
+use Rattle.tb_token.specs.grammar.Paths.{agg, operand, path}
+use Rattle.tb_token.specs.grammar.Results.{braced}
+use Rattle.tb_token.specs.declared.lexer.token.Kind.TheVariants as kind
 use Rattle.tb_pattern.specs.Value.{bytes_in, inside}
 use Rattle.tb_pattern.specs.Building.{next, begins, Builds}
 use Rattle.tb_pattern.proofs.BuildingLaws.{one-builds, Both, both-builds, builds-as, First, Second, first-builds, second-builds}

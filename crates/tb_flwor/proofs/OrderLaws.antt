@@ -1,13 +1,13 @@
 -- Groups and keys are built from their paths and operands.
 use Rattle.std.proofs.Common.{◌≡◌, ℕ, Bool, true, false, ◌≤◌, ◌||◌, ◌==◌, List, [], ◌∷◌, ◌++◌, length, drop, Some, None, refl, sym, ap, ◌∙◌, append_assoc, append-nil, arith, length-drop}
 use Rattle.std.specs.Prelude.{codes}
-use Rattle.tb_grammar.specs.Grammar.{Tok, Part, both, maybe, many}
-use Rattle.tb_grammar.specs.Words.{Tree, nothing, pair}
-use Rattle.tb_token.specs.Letters.{letter_of, place_in}
-use Rattle.tb_token.specs.Terminals.{word, sign, variable, list_of, comma}
-use Rattle.tb_token.specs.Paths.{operand, path}
-use Rattle.tb_token.specs.Queries.{group, key, order}
-use Rattle.tb_token.specs.declared.token.Kind.TheVariants as kind
+use Rattle.tb_token.specs.grammar.Grammar.{Tok, Part, both, maybe, many}
+use Rattle.tb_token.specs.grammar.Words.{Tree, nothing, pair}
+use Rattle.tb_token.specs.tokens.Letters.{letter_of, place_in}
+use Rattle.tb_token.specs.grammar.Terminals.{word, sign, variable, list_of, comma}
+use Rattle.tb_token.specs.grammar.Paths.{operand, path}
+use Rattle.tb_token.specs.grammar.Queries.{group, key, order}
+use Rattle.tb_token.specs.declared.lexer.token.Kind.TheVariants as kind
 use Rattle.tb_pattern.specs.Value.{bytes_in}
 use Rattle.tb_pattern.specs.Building.{next, begins, Builds}
 use Rattle.tb_pattern.proofs.BuildingLaws.{one-builds, Both, both-builds, builds-as, put_in-builds, left_out-builds}

@@ -1,13 +1,13 @@
 -- Paths are built step by step.
 use Rattle.std.proofs.Common.{◌≡◌, ℕ, true, false, ◌-◌, ◌≤◌, List, [], ◌∷◌, ◌++◌, length, drop, refl, sym, ap, ◌∙◌, append_assoc, append-nil, arith}
 use Rattle.std.specs.Prelude.{codes}
-use Rattle.tb_grammar.specs.Grammar.{Tok, Part, both, either, many}
-use Rattle.tb_grammar.specs.Words.{Tree, leaf, nothing, pair, first, second}
-use Rattle.tb_token.specs.Letters.{letter_of, place_in}
-use Rattle.tb_token.specs.Terminals.{word, sign, string, variable}
-use Rattle.tb_token.specs.Patterns.{doc, axis, test}
-use Rattle.tb_token.specs.Paths.{step, steps, longpath, path}
-use Rattle.tb_token.specs.declared.token.Kind.TheVariants as kind
+use Rattle.tb_token.specs.grammar.Grammar.{Tok, Part, both, either, many}
+use Rattle.tb_token.specs.grammar.Words.{Tree, leaf, nothing, pair, first, second}
+use Rattle.tb_token.specs.tokens.Letters.{letter_of, place_in}
+use Rattle.tb_token.specs.grammar.Terminals.{word, sign, string, variable}
+use Rattle.tb_token.specs.grammar.Patterns.{doc, axis, test}
+use Rattle.tb_token.specs.grammar.Paths.{step, steps, longpath, path}
+use Rattle.tb_token.specs.declared.lexer.token.Kind.TheVariants as kind
 use Rattle.tb_tree.specs.declared.node_test.Test.{Test}
 use Rattle.tb_pattern.specs.Letters.{axis_letters}
 use Rattle.tb_pattern.specs.Value.{bytes_in, inside, axis_of}

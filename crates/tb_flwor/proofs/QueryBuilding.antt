@@ -1,16 +1,16 @@
 -- A whole query is built by its first token.
 use Rattle.std.proofs.Common.{◌≡◌, ℕ, true, false, ◌||◌, ◌==◌, List, [], ◌∷◌, Option, Some, None, refl, sym, ◌∙◌, arith}
 use Rattle.std.specs.Prelude.{codes}
-use Rattle.tb_grammar.specs.Grammar.{Tok, has}
-use Rattle.tb_grammar.specs.Words.{Derives, at_end, by_first, by_second}
-use Rattle.tb_grammar.specs.Reading.{own_starts, read}
-use Rattle.tb_grammar.proofs.PlaceLaws.{read-first, read-second}
-use Rattle.tb_grammar.proofs.ReadLaws.{read-wrong}
-use Rattle.tb_token.specs.Letters.{letter_of, HaveDigits}
-use Rattle.tb_token.specs.Patterns.{match_query}
-use Rattle.tb_token.specs.Queries.{rules, follow, query, flwor}
-use Rattle.tb_token.proofs.QueryLaws.{readable}
-use Rattle.tb_token.specs.declared.token.Kind.TheVariants.{Word}
+use Rattle.tb_token.specs.grammar.Grammar.{Tok, has}
+use Rattle.tb_token.specs.grammar.Words.{Derives, at_end, by_first, by_second}
+use Rattle.tb_token.specs.grammar.Reading.{own_starts, read}
+use Rattle.tb_token.proofs.grammar.PlaceLaws.{read-first, read-second}
+use Rattle.tb_token.proofs.grammar.ReadLaws.{read-wrong}
+use Rattle.tb_token.specs.tokens.Letters.{letter_of, HaveDigits}
+use Rattle.tb_token.specs.grammar.Patterns.{match_query}
+use Rattle.tb_token.specs.grammar.Queries.{rules, follow, query, flwor}
+use Rattle.tb_token.proofs.grammar.QueryLaws.{readable}
+use Rattle.tb_token.specs.declared.lexer.token.Kind.TheVariants.{Word}
 use Rattle.tb_pattern.specs.BuiltParts as pattern
 use Rattle.tb_pattern.specs.Building.{Come, Builds}
 use Rattle.tb_pattern.proofs.BuildingLaws.{some-none, false-true, come-as}

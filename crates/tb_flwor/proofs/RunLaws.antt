@@ -1,10 +1,10 @@
 -- A part any number of times, built one after the other.
 use Rattle.std.proofs.Common.{◌≡◌, ℕ, Bool, true, false, ◌≤◌, List, [], ◌∷◌, length, drop, Some, refl, sym, ◌∙◌, arith}
-use Rattle.tb_grammar.specs.Grammar.{Tok, Part, one, both, many}
-use Rattle.tb_grammar.specs.Words.{Tree, nothing, pair, Derives, by_both, no_more, one_more}
-use Rattle.tb_grammar.specs.Reading.{is_filled, own_starts, read}
-use Rattle.tb_grammar.proofs.PlaceLaws.{read-both, read-one_more, read-no_more}
-use Rattle.tb_token.specs.Queries.{rules}
+use Rattle.tb_token.specs.grammar.Grammar.{Tok, Part, one, both, many}
+use Rattle.tb_token.specs.grammar.Words.{Tree, nothing, pair, Derives, by_both, no_more, one_more}
+use Rattle.tb_token.specs.grammar.Reading.{is_filled, own_starts, read}
+use Rattle.tb_token.proofs.grammar.PlaceLaws.{read-both, read-one_more, read-no_more}
+use Rattle.tb_token.specs.grammar.Queries.{rules}
 use Rattle.tb_pattern.specs.Building.{next, begins, Come, IsBuilt, Builds}
 use Rattle.tb_pattern.proofs.BuildingLaws.{false-true, come-as, one-builds, Both, both-builds, builds-as}
 

@@ -1,15 +1,15 @@
 -- What is read by the value of the grammar is a query.
 use Rattle.std.proofs.Common.{◌≡◌, ℕ, zero, suc, Option, List}
 use Rattle.std.specs.Prelude.{Result, Ok, Err, IfOk}
-use Rattle.tb_grammar.specs.Grammar.{Tok}
-use Rattle.tb_token.specs.Terminals.{name}
-use Rattle.tb_token.specs.Patterns.{edges_rest}
-use Rattle.tb_token.specs.Results.{cons_rest}
-use Rattle.tb_token.specs.Queries.{rules, follow, query}
-use Rattle.tb_token.proofs.QueryLaws.{readable}
-use Rattle.tb_reading.specs.View.{part_of, rules_of}
-use Rattle.tb_reading.specs.Calls.{Says, IsRead}
-use Rattle.tb_reading.specs.declared.part.Grammar.{Grammar}
+use Rattle.tb_token.specs.grammar.Grammar.{Tok}
+use Rattle.tb_token.specs.grammar.Terminals.{name}
+use Rattle.tb_token.specs.grammar.Patterns.{edges_rest}
+use Rattle.tb_token.specs.grammar.Results.{cons_rest}
+use Rattle.tb_token.specs.grammar.Queries.{rules, follow, query}
+use Rattle.tb_token.proofs.grammar.QueryLaws.{readable}
+use Rattle.tb_token.specs.reading.View.{part_of, rules_of}
+use Rattle.tb_token.specs.reading.Calls.{Says, IsRead}
+use Rattle.tb_token.specs.declared.reader.part.Grammar.{Grammar}
 use Rattle.tb_flwor.specs.Calls.{FirstWrong}
 
 -- the grammar of queries, rule by rule

@@ -1,10 +1,10 @@
 -- Trees of parts of queries worked out by hand, with what they stand for: each is computed.
 use Rattle.std.proofs.Common.{◌≡◌, ℕ, true, false, List, [], ◌∷◌, Some, refl}
 use Rattle.std.specs.Prelude.{codes}
-use Rattle.tb_grammar.specs.Words.{Tree, leaf, nothing, pair, first, second}
-use Rattle.tb_token.specs.Letters.{letter_of}
-use Rattle.tb_token.specs.declared.token.Kind.{Kind}
-use Rattle.tb_token.specs.declared.token.Kind.TheVariants as kind
+use Rattle.tb_token.specs.grammar.Words.{Tree, leaf, nothing, pair, first, second}
+use Rattle.tb_token.specs.tokens.Letters.{letter_of}
+use Rattle.tb_token.specs.declared.lexer.token.Kind.{Kind}
+use Rattle.tb_token.specs.declared.lexer.token.Kind.TheVariants as kind
 use Rattle.tb_number.specs.declared.agg.AggKind.TheVariants.{Sum}
 use Rattle.tb_number.specs.declared.op.CmpOp.TheVariants.{Lt}
 use Rattle.tb_span.specs.declared.item.Axis.TheVariants.{Child, Descendant}

@@ -1,7 +1,7 @@
 -- Texts and their first faults, worked out by hand: each is computed.
 use Rattle.std.proofs.Common.{◌≡◌, Some, None, refl}
 use Rattle.std.specs.Prelude.{codes}
-use Rattle.tb_token.proofs.QueryRows.{toks}
+use Rattle.tb_token.proofs.grammar.QueryRows.{toks}
 use Rattle.tb_number.specs.Reading as numbers
 use Rattle.tb_flwor.specs.Faults.{first_fault}
 use Rattle.tb_flwor.specs.declared.fault.QueryFault.TheVariants.{UnknownVariable, RepeatedVariable, LiteralPast, WrongTag, RepeatedAttribute}

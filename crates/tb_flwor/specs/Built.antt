@@ -1,12 +1,12 @@
 -- Which trees the values that the program builds stand for, part by part.
 use Rattle.std.specs.Prelude.{◌≡◌, ℕ, Bool, false, List, [], ◌∷◌, ◌++◌, Option, map, codes}
-use Rattle.tb_grammar.specs.Grammar.{Tok, Part, one, both, either, many, row}
-use Rattle.tb_grammar.specs.Words.{Tree, pair, first}
-use Rattle.tb_token.specs.Letters.{letter_of}
-use Rattle.tb_token.specs.declared.token.Kind.TheVariants.{Word}
-use Rattle.tb_token.specs.Terminals.{word, sign, name}
-use Rattle.tb_token.specs.Queries.{clause, query}
-use Rattle.tb_token.specs.Results as results
+use Rattle.tb_token.specs.grammar.Grammar.{Tok, Part, one, both, either, many, row}
+use Rattle.tb_token.specs.grammar.Words.{Tree, pair, first}
+use Rattle.tb_token.specs.tokens.Letters.{letter_of}
+use Rattle.tb_token.specs.declared.lexer.token.Kind.TheVariants.{Word}
+use Rattle.tb_token.specs.grammar.Terminals.{word, sign, name}
+use Rattle.tb_token.specs.grammar.Queries.{clause, query}
+use Rattle.tb_token.specs.grammar.Results as results
 use Rattle.tb_pattern.specs.Value.{is_there, bytes_in}
 use Rattle.tb_pattern.specs.Building.{Come, Builds}
 use Rattle.tb_query.specs.Parts.{PlainParts, element, plain_parts, before, part_of, cons_of, back_of}

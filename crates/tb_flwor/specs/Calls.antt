@@ -1,11 +1,11 @@
 -- What the calls answer.
 use Rattle.std.specs.Prelude.{◌≡◌, ℕ, List, [], ◌∷◌, Option, Some, None, Result, Ok, Err, ⊤}
 use Rattle.std.proofs.Common.{Vec, Global}
-use Rattle.tb_grammar.specs.Grammar.{Tok}
-use Rattle.tb_grammar.specs.Words.{IsWrongAt}
-use Rattle.tb_token.specs.declared.token.Token.{Token}
-use Rattle.tb_token.specs.Queries.{rules, query}
-use Rattle.tb_reading.specs.Calls as reading
+use Rattle.tb_token.specs.grammar.Grammar.{Tok}
+use Rattle.tb_token.specs.grammar.Words.{IsWrongAt}
+use Rattle.tb_token.specs.declared.lexer.token.Token.{Token}
+use Rattle.tb_token.specs.grammar.Queries.{rules, query}
+use Rattle.tb_token.specs.reading.Calls as reading
 use Rattle.tb_query.specs.declared.query.Query.{Query}
 use Rattle.tb_flwor.specs.Asked.{AskFor}
 use Rattle.tb_flwor.specs.Faults.{AreQuery, AreTokens, fault_at_token, first_fault, Holds, HasFault}

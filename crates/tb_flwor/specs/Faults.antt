@@ -1,14 +1,14 @@
 -- The faults of a query's text, in the order in which they are tried. The first that holds is
 -- answered, and of one kind the first by the number of its token, or by its byte.
 use Rattle.std.specs.Prelude.{◌≡◌, ℕ, ◌<◌, ◌≤◌, Bool, if◌then◌else◌, nat_lt, List, [], ◌∷◌, length, Option, Some, None, ⊤}
-use Rattle.tb_grammar.specs.Grammar.{Tok}
-use Rattle.tb_grammar.specs.Words.{AreWord, IsWrongAt}
-use Rattle.tb_token.specs.Cuts.{IsCut}
-use Rattle.tb_token.specs.Letters.{toks_of}
-use Rattle.tb_token.specs.Queries.{rules, query}
-use Rattle.tb_token.specs.declared.token.Token.{Token}
-use Rattle.tb_token.specs.declared.fault.LexFault.{LexFault}
-use Rattle.tb_token.specs.declared.fault.LexFault.TheVariants as lex
+use Rattle.tb_token.specs.grammar.Grammar.{Tok}
+use Rattle.tb_token.specs.grammar.Words.{AreWord, IsWrongAt}
+use Rattle.tb_token.specs.tokens.Cuts.{IsCut}
+use Rattle.tb_token.specs.tokens.Letters.{toks_of}
+use Rattle.tb_token.specs.grammar.Queries.{rules, query}
+use Rattle.tb_token.specs.declared.lexer.token.Token.{Token}
+use Rattle.tb_token.specs.declared.lexer.fault.LexFault.{LexFault}
+use Rattle.tb_token.specs.declared.lexer.fault.LexFault.TheVariants as lex
 use Rattle.tb_pattern.specs.Faults as pattern
 use Rattle.tb_scope.specs.Variables.{is_match, clauses_in, bound, first_unknown, first_repeated}
 use Rattle.tb_scope.specs.Constructors.{results, is_nested, first_wrong_tag, first_repeated_attribute}

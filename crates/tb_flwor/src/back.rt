@@ -2,10 +2,10 @@
 //! each other, and in a query without fault they have at most 32 levels.
 
 ghost use Rattle.std.specs.Prelude.{◌≡◌, ◌-◌, ◌≤◌, IfOk, length};
-ghost use Rattle.tb_grammar.specs.Grammar.{many};
+ghost use Rattle.tb_token.specs.grammar.Grammar.{many};
 ghost use Rattle.tb_pattern.specs.Building.{Builds, next};
 ghost use Rattle.tb_pattern.specs.Value.{bytes_in};
-ghost use Rattle.tb_token.specs.Results as part;
+ghost use Rattle.tb_token.specs.grammar.Results as part;
 ghost use Rattle.tb_flwor.specs.Built.{Gives, IsBack, IsCons, AreInside, AreParts, IsPart, AreAttrs, inside};
 ghost use Rattle.tb_flwor.specs.Results.{attr_from};
 

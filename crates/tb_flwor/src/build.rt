@@ -2,7 +2,7 @@
 
 ghost use Rattle.std.specs.Prelude.{◌≡◌, IfOk};
 ghost use Rattle.tb_pattern.specs.Building.{Builds};
-ghost use Rattle.tb_token.specs.Queries as part;
+ghost use Rattle.tb_token.specs.grammar.Queries as part;
 ghost use Rattle.tb_flwor.specs.Asked.{IsFlwor};
 
 use crate::back::back;

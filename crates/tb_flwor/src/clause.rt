@@ -1,10 +1,10 @@
 //! The clauses at the front of tokens that are a query.
 
 ghost use Rattle.std.specs.Prelude.{◌-◌, ◌≤◌, IfOk, length};
-ghost use Rattle.tb_grammar.specs.Grammar.{maybe};
+ghost use Rattle.tb_token.specs.grammar.Grammar.{maybe};
 ghost use Rattle.tb_pattern.specs.Building.{Builds};
-ghost use Rattle.tb_token.specs.Queries as part;
-ghost use Rattle.tb_token.specs.Terminals.{comma, list_of};
+ghost use Rattle.tb_token.specs.grammar.Queries as part;
+ghost use Rattle.tb_token.specs.grammar.Terminals.{comma, list_of};
 ghost use Rattle.tb_flwor.specs.Built.{Gives, GivesAll, AreBinds, BuildsClauses, IsAllowed, allowing};
 ghost use Rattle.tb_flwor.specs.Value.{bind_from, clause_from};
 

@@ -1,11 +1,11 @@
 //! The conditions of a query at the front of its tokens.
 
 ghost use Rattle.std.specs.Prelude.{◌≡◌, ◌-◌, ◌≤◌, IfOk, length};
-ghost use Rattle.tb_grammar.specs.Grammar.{either, maybe};
+ghost use Rattle.tb_token.specs.grammar.Grammar.{either, maybe};
 ghost use Rattle.tb_pattern.specs.Building.{Builds, BuildsApart};
-ghost use Rattle.tb_token.specs.Patterns.{literal};
-ghost use Rattle.tb_token.specs.Paths.{operand};
-ghost use Rattle.tb_token.specs.Queries as part;
+ghost use Rattle.tb_token.specs.grammar.Patterns.{literal};
+ghost use Rattle.tb_token.specs.grammar.Paths.{operand};
+ghost use Rattle.tb_token.specs.grammar.Queries as part;
 ghost use Rattle.tb_flwor.specs.Built.{Gives, AreConds, IsRight};
 ghost use Rattle.tb_flwor.specs.Value.{cond_from};
 

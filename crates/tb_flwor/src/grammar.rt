@@ -2,7 +2,7 @@
 //! `path`. Letters are those that `Lexeme` of `tb_token` tells; a contract holds each against the
 //! grammar there.
 
-use tb_reading::Part;
+use tb_token::Part;
 
 // NAME, or any word in its place
 pub const NAME: Part = Part::One(&[

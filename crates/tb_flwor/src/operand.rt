@@ -1,11 +1,11 @@
 //! The operand at the front of tokens that are a query.
 
 ghost use Rattle.std.specs.Prelude.{◌≡◌, ◌-◌, ◌≤◌, IfOk, length};
-ghost use Rattle.tb_grammar.specs.Grammar.{either};
+ghost use Rattle.tb_token.specs.grammar.Grammar.{either};
 ghost use Rattle.tb_pattern.specs.Building.{Builds, next};
-ghost use Rattle.tb_token.specs.Paths as part;
-ghost use Rattle.tb_token.specs.Results.{braced};
-ghost use Rattle.tb_token.specs.Terminals.{string};
+ghost use Rattle.tb_token.specs.grammar.Paths as part;
+ghost use Rattle.tb_token.specs.grammar.Results.{braced};
+ghost use Rattle.tb_token.specs.grammar.Terminals.{string};
 ghost use Rattle.tb_flwor.specs.Built.{IsOperand, IsBraced, IsContent};
 ghost use Rattle.tb_flwor.specs.Value.{agg_of};
 

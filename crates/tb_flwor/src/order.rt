@@ -1,9 +1,9 @@
 //! How a query groups and orders, at the front of its tokens.
 
 ghost use Rattle.std.specs.Prelude.{◌≡◌, ◌-◌, ◌≤◌, IfOk, length};
-ghost use Rattle.tb_grammar.specs.Grammar.{maybe};
+ghost use Rattle.tb_token.specs.grammar.Grammar.{maybe};
 ghost use Rattle.tb_pattern.specs.Building.{Builds};
-ghost use Rattle.tb_token.specs.Queries as part;
+ghost use Rattle.tb_token.specs.grammar.Queries as part;
 ghost use Rattle.tb_flwor.specs.Built.{Gives, IsGroup, AreKeys, IsTurned, direction};
 ghost use Rattle.tb_flwor.specs.Value.{key_from};
 

@@ -1,11 +1,11 @@
 //! The path at the front of tokens that are a query.
 
 ghost use Rattle.std.specs.Prelude.{◌≡◌, ◌-◌, ◌≤◌, IfOk, length};
-ghost use Rattle.tb_grammar.specs.Grammar.{either, many};
+ghost use Rattle.tb_token.specs.grammar.Grammar.{either, many};
 ghost use Rattle.tb_pattern.specs.Building.{Builds};
-ghost use Rattle.tb_token.specs.Patterns.{doc};
-ghost use Rattle.tb_token.specs.Paths as part;
-ghost use Rattle.tb_token.specs.Terminals.{variable};
+ghost use Rattle.tb_token.specs.grammar.Patterns.{doc};
+ghost use Rattle.tb_token.specs.grammar.Paths as part;
+ghost use Rattle.tb_token.specs.grammar.Terminals.{variable};
 ghost use Rattle.tb_flwor.specs.Built.{Gives, IsDocument, AreSteps, AreMore, IsStart, IsPath, IsLongpath};
 ghost use Rattle.tb_flwor.specs.Value.{step_from};
 

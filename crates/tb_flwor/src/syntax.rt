@@ -1,14 +1,13 @@
 //! Where tokens stop being a query.
 
 ghost use Rattle.std.specs.Prelude.{◌≤◌, IfOk, length};
-ghost use Rattle.tb_token.specs.Queries.{rules, query};
-ghost use Rattle.tb_reading.specs.Calls.{Says};
+ghost use Rattle.tb_token.specs.grammar.Queries.{rules, query};
+ghost use Rattle.tb_token.specs.reading.Calls.{Says};
 ghost use Rattle.tb_flwor.specs.Calls.{FirstWrong};
 
 use crate::grammar::{CONS_REST, EDGES_REST, NAME, QUERY};
 use std::alloc::{AllocError, Global};
-use tb_reading::{Grammar, first_wrong};
-use tb_token::Lexeme;
+use tb_token::{Grammar, Lexeme, first_wrong};
 
 /// The number, from 1, of the first token that begins no query with those before it, or one more than
 /// there are. `None` for a query. Brackets and constructors inside each other cost no calls.

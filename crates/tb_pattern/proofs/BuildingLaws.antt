@@ -1,12 +1,12 @@
 -- What is built of a part is built of its parts.
 use Rattle.std.proofs.Common.{◌≡◌, ℕ, Bool, true, false, cond, List, [], ◌∷◌, drop, Option, Some, None, refl, sym, ap, ◌∙◌}
 use Rattle.std.specs.Prelude.{codes}
-use Rattle.tb_grammar.specs.Grammar.{Tok, Part, one, both, either, maybe, opened, has}
-use Rattle.tb_grammar.specs.Words.{Tree, leaf, nothing, pair, first, second, by_one, by_both, by_first, by_second, left_out, put_in, by_rule}
-use Rattle.tb_grammar.specs.Reading.{is_filled, own_starts, after, read}
-use Rattle.tb_grammar.proofs.PlaceLaws.{read-both, read-first, read-second, read-put_in, read-left_out, read-one, read-rule}
-use Rattle.tb_grammar.proofs.LetterLaws.{none-true}
-use Rattle.tb_token.specs.Queries.{rules}
+use Rattle.tb_token.specs.grammar.Grammar.{Tok, Part, one, both, either, maybe, opened, has}
+use Rattle.tb_token.specs.grammar.Words.{Tree, leaf, nothing, pair, first, second, by_one, by_both, by_first, by_second, left_out, put_in, by_rule}
+use Rattle.tb_token.specs.grammar.Reading.{is_filled, own_starts, after, read}
+use Rattle.tb_token.proofs.grammar.PlaceLaws.{read-both, read-first, read-second, read-put_in, read-left_out, read-one, read-rule}
+use Rattle.tb_token.proofs.grammar.LetterLaws.{none-true}
+use Rattle.tb_token.specs.grammar.Queries.{rules}
 use Rattle.tb_pattern.specs.Faults.{is_past, past_behind}
 use Rattle.tb_pattern.specs.Letters.{is_sign}
 use Rattle.tb_pattern.specs.Building.{next, begins, Come, IsBuilt, Builds}

@@ -2,18 +2,18 @@
 use Rattle.std.proofs.Common.{◌≡◌, ℕ, Bool, true, false, cond, ◌==◌, ◌||◌, ◌≤◌, List, [], ◌∷◌, ◌++◌, length, drop, Option, Some, None, refl, sym, ap, ◌∙◌, append-nil, append_assoc, eqb-true, pos, arith, length-drop}
 use Rattle.std.specs.Prelude.{ℤ, codes}
 use Rattle.std.specs.Option.{unwrap_or}
-use Rattle.tb_grammar.specs.Grammar.{Tok, Part, both, maybe, many, has}
-use Rattle.tb_grammar.specs.Words.{Tree, leaf, nothing, pair, second, by_one, by_both, by_second, left_out, put_in}
-use Rattle.tb_grammar.proofs.PlaceLaws.{read-both, read-second, read-put_in, read-left_out, read-one}
-use Rattle.tb_grammar.proofs.LetterLaws.{none-true}
+use Rattle.tb_token.specs.grammar.Grammar.{Tok, Part, both, maybe, many, has}
+use Rattle.tb_token.specs.grammar.Words.{Tree, leaf, nothing, pair, second, by_one, by_both, by_second, left_out, put_in}
+use Rattle.tb_token.proofs.grammar.PlaceLaws.{read-both, read-second, read-put_in, read-left_out, read-one}
+use Rattle.tb_token.proofs.grammar.LetterLaws.{none-true}
 use Rattle.tb_number.specs.IntText.{signed, number_of}
 use Rattle.tb_number.specs.Range.{is_in_range, within_range}
-use Rattle.tb_token.specs.Letters.{letter_of}
-use Rattle.tb_token.specs.Kinds.{is_number}
-use Rattle.tb_token.specs.Terminals.{word, sign, number, string}
-use Rattle.tb_token.specs.Patterns.{cmp, literal, conds}
-use Rattle.tb_token.specs.Queries.{rules}
-use Rattle.tb_token.specs.declared.token.Kind.TheVariants as kind
+use Rattle.tb_token.specs.tokens.Letters.{letter_of}
+use Rattle.tb_token.specs.tokens.Kinds.{is_number}
+use Rattle.tb_token.specs.grammar.Terminals.{word, sign, number, string}
+use Rattle.tb_token.specs.grammar.Patterns.{cmp, literal, conds}
+use Rattle.tb_token.specs.grammar.Queries.{rules}
+use Rattle.tb_token.specs.declared.lexer.token.Kind.TheVariants as kind
 use Rattle.tb_pattern.specs.Reading.{one_cond}
 use Rattle.tb_pattern.specs.Letters.{signs_of, cmp_letters}
 use Rattle.tb_pattern.specs.Faults.{is_none, literal_in}

@@ -1,12 +1,12 @@
 -- Edges are built by their parts.
 use Rattle.std.proofs.Common.{◌≡◌, ℕ, Bool, true, false, ◌≤◌, List, [], ◌∷◌, ◌++◌, length, drop, refl, sym, ap, ◌∙◌, arith, length-drop}
 use Rattle.std.specs.Prelude.{codes}
-use Rattle.tb_grammar.specs.Grammar.{Tok, Part, both, maybe, many}
-use Rattle.tb_grammar.specs.Words.{Tree, nothing, pair}
-use Rattle.tb_token.specs.Letters.{letter_of}
-use Rattle.tb_token.specs.Terminals.{sign, comma}
-use Rattle.tb_token.specs.Patterns.{axis, mark, test, conds, edges, edge, edges_rest}
-use Rattle.tb_token.specs.declared.token.Kind.TheVariants.{Sign}
+use Rattle.tb_token.specs.grammar.Grammar.{Tok, Part, both, maybe, many}
+use Rattle.tb_token.specs.grammar.Words.{Tree, nothing, pair}
+use Rattle.tb_token.specs.tokens.Letters.{letter_of}
+use Rattle.tb_token.specs.grammar.Terminals.{sign, comma}
+use Rattle.tb_token.specs.grammar.Patterns.{axis, mark, test, conds, edges, edge, edges_rest}
+use Rattle.tb_token.specs.declared.lexer.token.Kind.TheVariants.{Sign}
 use Rattle.tb_tree.specs.declared.node_test.Test.{Test}
 use Rattle.tb_pattern.specs.Letters.{signs_of, axis_letters, mark_letters}
 use Rattle.tb_pattern.specs.Plain.{PlainEdges, no_edges}

@@ -1,13 +1,13 @@
 -- Parts in a list, built one after the other.
 use Rattle.std.proofs.Common.{◌≡◌, ℕ, Bool, true, false, List, [], ◌∷◌, drop, Some, refl, sym, ap, ◌∙◌}
 use Rattle.std.specs.Prelude.{codes}
-use Rattle.tb_grammar.specs.Grammar.{Tok, Part, one, both, many}
-use Rattle.tb_grammar.specs.Words.{Tree, leaf, nothing, pair, Derives, by_one, by_both, no_more, one_more}
-use Rattle.tb_grammar.specs.Reading.{read}
-use Rattle.tb_grammar.proofs.PlaceLaws.{read-both, read-one_more, read-no_more, read-one}
-use Rattle.tb_grammar.proofs.LetterLaws.{none-true}
-use Rattle.tb_token.specs.Queries.{rules}
-use Rattle.tb_token.specs.Terminals.{list_of}
+use Rattle.tb_token.specs.grammar.Grammar.{Tok, Part, one, both, many}
+use Rattle.tb_token.specs.grammar.Words.{Tree, leaf, nothing, pair, Derives, by_one, by_both, no_more, one_more}
+use Rattle.tb_token.specs.grammar.Reading.{read}
+use Rattle.tb_token.proofs.grammar.PlaceLaws.{read-both, read-one_more, read-no_more, read-one}
+use Rattle.tb_token.proofs.grammar.LetterLaws.{none-true}
+use Rattle.tb_token.specs.grammar.Queries.{rules}
+use Rattle.tb_token.specs.grammar.Terminals.{list_of}
 use Rattle.tb_pattern.specs.Letters.{is_sign}
 use Rattle.tb_pattern.specs.Building.{begins, Come, IsBuilt, Builds}
 use Rattle.tb_pattern.proofs.BuildingLaws.{come-next}

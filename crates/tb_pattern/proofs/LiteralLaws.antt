@@ -7,7 +7,7 @@ use Rattle.std.specs.Option.{option_and_then}
 use Rattle.tb_number.specs.IntText.{is_digit, number_of, signed, none, minus, StandsFor}
 use Rattle.tb_number.specs.Range.{within_range}
 use Rattle.tb_number.proofs.ReadingLaws.{stands-integer_of}
-use Rattle.tb_token.specs.Kinds.{is_number}
+use Rattle.tb_token.specs.tokens.Kinds.{is_number}
 use Rattle.tb_pattern.specs.Faults.{with_sign, literal_in}
 
 number-some : (digits : List ℕ) → is_number digits ≡ true → 0 < length digits

@@ -5,14 +5,14 @@ use Rattle.std.proofs.lemmas.Bool.{and_parts}
 use Rattle.std.proofs.lemmas.Bool.Decides.{nat_tests}
 use Rattle.tb_span.specs.declared.item.Axis.TheVariants.{Child}
 use Rattle.tb_tree.specs.declared.node_test.Test.TheVariants.{Name}
-use Rattle.tb_grammar.specs.Grammar.{Tok, Part, both, maybe, many, has}
-use Rattle.tb_grammar.specs.Words.{Tree, leaf, nothing, pair, first, second, Derives, at_end, by_one, by_both, by_first, by_second, left_out, put_in, no_more, one_more, by_rule}
-use Rattle.tb_grammar.proofs.LetterLaws.{none-true, apart-none}
-use Rattle.tb_token.specs.Letters.{letter_of}
-use Rattle.tb_token.specs.declared.token.Kind.TheVariants.{Sign}
-use Rattle.tb_token.specs.Terminals.{comma}
-use Rattle.tb_token.specs.Patterns.{edges, edge, match_query}
-use Rattle.tb_token.specs.Queries.{rules}
+use Rattle.tb_token.specs.grammar.Grammar.{Tok, Part, both, maybe, many, has}
+use Rattle.tb_token.specs.grammar.Words.{Tree, leaf, nothing, pair, first, second, Derives, at_end, by_one, by_both, by_first, by_second, left_out, put_in, no_more, one_more, by_rule}
+use Rattle.tb_token.proofs.grammar.LetterLaws.{none-true, apart-none}
+use Rattle.tb_token.specs.tokens.Letters.{letter_of}
+use Rattle.tb_token.specs.declared.lexer.token.Kind.TheVariants.{Sign}
+use Rattle.tb_token.specs.grammar.Terminals.{comma}
+use Rattle.tb_token.specs.grammar.Patterns.{edges, edge, match_query}
+use Rattle.tb_token.specs.grammar.Queries.{rules}
 use Rattle.tb_pattern.specs.Faults.{open_behind, nests_past, letters_of, is_too_nested}
 use Rattle.tb_pattern.specs.declared.pattern.Mark.TheVariants.{One}
 use Rattle.tb_pattern.specs.Plain.{matching, PlainEdges, no_edges, edge as edge_to, levels}

@@ -1,12 +1,12 @@
 -- A test is built by its first token.
 use Rattle.std.proofs.Common.{◌≡◌, ℕ, true, false, List, [], ◌∷◌, drop, refl, ap, ◌∙◌}
 use Rattle.std.specs.Prelude.{codes}
-use Rattle.tb_grammar.specs.Grammar.{Tok, Part, both, either}
-use Rattle.tb_grammar.specs.Words.{Tree, pair, first, second}
-use Rattle.tb_token.specs.Letters.{letter_of}
-use Rattle.tb_token.specs.Terminals.{sign, name, text_test}
-use Rattle.tb_token.specs.Patterns.{test}
-use Rattle.tb_token.specs.declared.token.Kind.TheVariants.{TextTest}
+use Rattle.tb_token.specs.grammar.Grammar.{Tok, Part, both, either}
+use Rattle.tb_token.specs.grammar.Words.{Tree, pair, first, second}
+use Rattle.tb_token.specs.tokens.Letters.{letter_of}
+use Rattle.tb_token.specs.grammar.Terminals.{sign, name, text_test}
+use Rattle.tb_token.specs.grammar.Patterns.{test}
+use Rattle.tb_token.specs.declared.lexer.token.Kind.TheVariants.{TextTest}
 use Rattle.tb_tree.specs.declared.node_test.Test.{Test}
 use Rattle.tb_tree.specs.declared.node_test.Test.TheVariants.{Name, AnyElement, AttrName, AnyAttr, AnyText}
 use Rattle.tb_pattern.specs.Letters.{name_letters, signs_of}

@@ -1,10 +1,10 @@
 -- Trees of a part, wherever its tokens stand, and letters that stand in none of them.
 use Rattle.std.proofs.Common.{◌≡◌, ℕ, Bool, true, false, ◌&&◌, List, [], ◌∷◌}
 use Rattle.std.specs.Prelude.{⊤}
-use Rattle.tb_grammar.specs.Grammar.{Tok, Part, one, both, either, maybe, many, opened, has}
-use Rattle.tb_grammar.specs.Words.{Tree, leaf, nothing, pair, first, second, Derives, at_end, by_one, by_both, by_first, by_second, left_out, put_in, no_more, one_more, by_rule}
-use Rattle.tb_grammar.specs.Decided.{are_apart}
-use Rattle.tb_token.specs.Queries.{rules}
+use Rattle.tb_token.specs.grammar.Grammar.{Tok, Part, one, both, either, maybe, many, opened, has}
+use Rattle.tb_token.specs.grammar.Words.{Tree, leaf, nothing, pair, first, second, Derives, at_end, by_one, by_both, by_first, by_second, left_out, put_in, no_more, one_more, by_rule}
+use Rattle.tb_token.specs.grammar.Decided.{are_apart}
+use Rattle.tb_token.specs.grammar.Queries.{rules}
 
 -- a tree of the part
 pub data Of : Part → Tree → Type 0 where

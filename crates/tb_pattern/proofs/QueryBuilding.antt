@@ -1,16 +1,16 @@
 -- A whole query is built from its document's name and its edges.
 use Rattle.std.proofs.Common.{◌≡◌, ℕ, false, List, [], ◌∷◌, drop, Option, Some, None, refl, sym, ap, ◌∙◌, drop-drop}
 use Rattle.std.specs.Prelude.{codes}
-use Rattle.tb_grammar.specs.Grammar.{Tok, both}
-use Rattle.tb_grammar.specs.Words.{Tree, pair, Derives, at_end}
-use Rattle.tb_grammar.specs.Reading.{read}
-use Rattle.tb_grammar.proofs.ReadLaws.{read-wrong}
-use Rattle.tb_token.specs.Letters.{letter_of, HaveDigits}
-use Rattle.tb_token.specs.Terminals.{word, sign, string}
-use Rattle.tb_token.specs.Patterns.{doc, edges, edges_rest, match_query}
-use Rattle.tb_token.specs.Queries.{rules, follow}
-use Rattle.tb_token.proofs.QueryLaws.{readable}
-use Rattle.tb_token.specs.declared.token.Kind.TheVariants.{Word, Sign, Quoted}
+use Rattle.tb_token.specs.grammar.Grammar.{Tok, both}
+use Rattle.tb_token.specs.grammar.Words.{Tree, pair, Derives, at_end}
+use Rattle.tb_token.specs.grammar.Reading.{read}
+use Rattle.tb_token.proofs.grammar.ReadLaws.{read-wrong}
+use Rattle.tb_token.specs.tokens.Letters.{letter_of, HaveDigits}
+use Rattle.tb_token.specs.grammar.Terminals.{word, sign, string}
+use Rattle.tb_token.specs.grammar.Patterns.{doc, edges, edges_rest, match_query}
+use Rattle.tb_token.specs.grammar.Queries.{rules, follow}
+use Rattle.tb_token.proofs.grammar.QueryLaws.{readable}
+use Rattle.tb_token.specs.declared.lexer.token.Kind.TheVariants.{Word, Sign, Quoted}
 use Rattle.tb_pattern.specs.Syntax.{AreMatch}
 use Rattle.tb_pattern.specs.Faults.{HasNoFault}
 use Rattle.tb_pattern.specs.Plain.{PlainEdges}

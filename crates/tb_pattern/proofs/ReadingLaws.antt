@@ -2,12 +2,12 @@
 use Rattle.std.proofs.Common.{◌≡◌, ℕ, zero, suc, ◌+◌, Bool, true, false, cond, List, [], ◌∷◌, Option, Some, None, refl, arith}
 use Rattle.std.specs.Option.{option_map}
 use Rattle.std.specs.Prelude.{◌==◌, codes}
-use Rattle.tb_grammar.specs.Grammar.{Part, both, either, maybe, has}
-use Rattle.tb_grammar.specs.Reading.{after, may_end as parts_may_end}
-use Rattle.tb_token.specs.Letters.{letter_of}
-use Rattle.tb_token.specs.Terminals.{sign, name, number, text_test}
-use Rattle.tb_token.specs.Queries.{rules}
-use Rattle.tb_token.specs.declared.token.Kind.TheVariants.{Number, TextTest}
+use Rattle.tb_token.specs.grammar.Grammar.{Part, both, either, maybe, has}
+use Rattle.tb_token.specs.grammar.Reading.{after, may_end as parts_may_end}
+use Rattle.tb_token.specs.tokens.Letters.{letter_of}
+use Rattle.tb_token.specs.grammar.Terminals.{sign, name, number, text_test}
+use Rattle.tb_token.specs.grammar.Queries.{rules}
+use Rattle.tb_token.specs.declared.lexer.token.Kind.TheVariants.{Number, TextTest}
 use Rattle.tb_pattern.specs.Reading.{at, on, step_at, edges_at, ends_at, outer, test_behind, cond_behind, parts_at, parts_of}
 use Rattle.tb_pattern.specs.Letters.{signs_of}
 use Rattle.tb_pattern.specs.declared.reading.Reading.{Reading}

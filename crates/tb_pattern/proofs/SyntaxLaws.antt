@@ -2,13 +2,13 @@
 use Rattle.std.proofs.Common.{◌≡◌, ℕ, ◌+◌, ◌-◌, ◌<◌, ◌≤◌, true, false, cond, List, [], ◌∷◌, length, drop, get_or, Some, None, refl, sym, ap, ◌∙◌, arith, length-drop}
 use Rattle.std.proofs.lemmas.List.{drop_more, drop_all}
 use Rattle.std.specs.Option.{option_map}
-use Rattle.tb_grammar.specs.Grammar.{Tok}
-use Rattle.tb_grammar.specs.Words.{IsWrongAt}
-use Rattle.tb_grammar.specs.Reading.{read, after}
-use Rattle.tb_grammar.proofs.ReadLaws.{read-word, read-wrong}
-use Rattle.tb_token.specs.Patterns.{match_query}
-use Rattle.tb_token.specs.Queries.{rules, follow}
-use Rattle.tb_token.proofs.QueryLaws.{readable}
+use Rattle.tb_token.specs.grammar.Grammar.{Tok}
+use Rattle.tb_token.specs.grammar.Words.{IsWrongAt}
+use Rattle.tb_token.specs.grammar.Reading.{read, after}
+use Rattle.tb_token.proofs.grammar.ReadLaws.{read-word, read-wrong}
+use Rattle.tb_token.specs.grammar.Patterns.{match_query}
+use Rattle.tb_token.specs.grammar.Queries.{rules, follow}
+use Rattle.tb_token.proofs.grammar.QueryLaws.{readable}
 use Rattle.tb_pattern.specs.Reading.{start, step, may_end, parts_of}
 use Rattle.tb_pattern.specs.Syntax.{FirstWrong}
 use Rattle.tb_pattern.proofs.ReadingLaws.{parts-step, parts-end}

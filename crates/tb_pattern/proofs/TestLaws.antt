@@ -2,15 +2,15 @@
 use Rattle.std.proofs.Common.{◌≡◌, ℕ, ◌+◌, Bool, true, false, cond, List, [], ◌∷◌, refl, ap, arith}
 use Rattle.std.specs.Prelude.{codes}
 use Rattle.std.proofs.lemmas.Bool.{and_parts}
-use Rattle.tb_grammar.specs.Grammar.{Tok, Part, both, maybe, many, has}
-use Rattle.tb_grammar.specs.Words.{Tree, leaf, nothing, pair, first, second, Derives, at_end, by_one, by_both, by_first, by_second, left_out, put_in, no_more, one_more, by_rule}
-use Rattle.tb_grammar.specs.Decided.{are_apart}
-use Rattle.tb_grammar.proofs.LetterLaws.{none-true, apart-none}
-use Rattle.tb_token.specs.Letters.{letter_of}
-use Rattle.tb_token.specs.declared.token.Kind.TheVariants.{Sign}
-use Rattle.tb_token.specs.Terminals.{comma}
-use Rattle.tb_token.specs.Patterns.{axis, edges, edge, match_query}
-use Rattle.tb_token.specs.Queries.{rules}
+use Rattle.tb_token.specs.grammar.Grammar.{Tok, Part, both, maybe, many, has}
+use Rattle.tb_token.specs.grammar.Words.{Tree, leaf, nothing, pair, first, second, Derives, at_end, by_one, by_both, by_first, by_second, left_out, put_in, no_more, one_more, by_rule}
+use Rattle.tb_token.specs.grammar.Decided.{are_apart}
+use Rattle.tb_token.proofs.grammar.LetterLaws.{none-true, apart-none}
+use Rattle.tb_token.specs.tokens.Letters.{letter_of}
+use Rattle.tb_token.specs.declared.lexer.token.Kind.TheVariants.{Sign}
+use Rattle.tb_token.specs.grammar.Terminals.{comma}
+use Rattle.tb_token.specs.grammar.Patterns.{axis, edges, edge, match_query}
+use Rattle.tb_token.specs.grammar.Queries.{rules}
 use Rattle.tb_pattern.specs.Letters.{axis_letters}
 use Rattle.tb_pattern.specs.Faults.{tests_in, letters_of, tests_of}
 use Rattle.tb_pattern.specs.Plain.{PlainEdges, nodes_in}

@@ -1,14 +1,14 @@
 -- Tokens ask for one pattern at most; and the tree of a query's edges worked out by hand.
 use Rattle.std.proofs.Common.{◌≡◌, ℕ, true, false, List, [], ◌∷◌, refl, sym, ap, ◌∙◌, pos, negsuc}
 use Rattle.std.specs.Prelude.{codes}
-use Rattle.tb_grammar.specs.Grammar.{Tok}
-use Rattle.tb_grammar.specs.Words.{Tree, leaf, nothing, pair, first, second}
-use Rattle.tb_grammar.proofs.TreeLaws.{one-tree}
-use Rattle.tb_token.specs.Letters.{letter_of}
-use Rattle.tb_token.specs.Queries.{rules, follow}
-use Rattle.tb_token.proofs.QueryLaws.{readable}
-use Rattle.tb_token.specs.declared.token.Kind.{Kind}
-use Rattle.tb_token.specs.declared.token.Kind.TheVariants as kind
+use Rattle.tb_token.specs.grammar.Grammar.{Tok}
+use Rattle.tb_token.specs.grammar.Words.{Tree, leaf, nothing, pair, first, second}
+use Rattle.tb_token.proofs.grammar.TreeLaws.{one-tree}
+use Rattle.tb_token.specs.tokens.Letters.{letter_of}
+use Rattle.tb_token.specs.grammar.Queries.{rules, follow}
+use Rattle.tb_token.proofs.grammar.QueryLaws.{readable}
+use Rattle.tb_token.specs.declared.lexer.token.Kind.{Kind}
+use Rattle.tb_token.specs.declared.lexer.token.Kind.TheVariants as kind
 use Rattle.tb_span.specs.declared.item.Axis.TheVariants.{Child, Descendant}
 use Rattle.tb_number.specs.declared.op.CmpOp.TheVariants.{Ge, Lt}
 use Rattle.tb_tree.specs.declared.node_test.Test.TheVariants.{Name, AttrName, AnyText}

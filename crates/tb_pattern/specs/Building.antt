@@ -1,10 +1,10 @@
 -- What the program builds of a query without fault, from the front of its tokens on.
 use Rattle.std.specs.Prelude.{◌≡◌, ℕ, Bool, false, List, [], ◌∷◌, Some, None}
-use Rattle.tb_grammar.specs.Grammar.{Tok, Part, has}
-use Rattle.tb_grammar.specs.Words.{Tree, leaf, nothing, Derives}
-use Rattle.tb_grammar.specs.Reading.{read}
-use Rattle.tb_token.specs.Letters.{HaveDigits}
-use Rattle.tb_token.specs.Queries.{rules}
+use Rattle.tb_token.specs.grammar.Grammar.{Tok, Part, has}
+use Rattle.tb_token.specs.grammar.Words.{Tree, leaf, nothing, Derives}
+use Rattle.tb_token.specs.grammar.Reading.{read}
+use Rattle.tb_token.specs.tokens.Letters.{HaveDigits}
+use Rattle.tb_token.specs.grammar.Queries.{rules}
 use Rattle.tb_pattern.specs.Faults.{past_behind}
 
 -- the next token as a tree

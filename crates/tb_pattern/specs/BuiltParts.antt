@@ -1,10 +1,10 @@
 -- Which trees the values that the program builds stand for, part by part.
 use Rattle.std.specs.Prelude.{◌≡◌, ℕ, Bool, false, List, [], ◌∷◌, codes, pos}
 use Rattle.std.specs.Option.{unwrap_or}
-use Rattle.tb_grammar.specs.Grammar.{Tok, Part, either}
-use Rattle.tb_grammar.specs.Words.{Tree, pair, first, second}
-use Rattle.tb_token.specs.Patterns.{match_query}
-use Rattle.tb_token.specs.Terminals.{sign, name}
+use Rattle.tb_token.specs.grammar.Grammar.{Tok, Part, either}
+use Rattle.tb_token.specs.grammar.Words.{Tree, pair, first, second}
+use Rattle.tb_token.specs.grammar.Patterns.{match_query}
+use Rattle.tb_token.specs.grammar.Terminals.{sign, name}
 use Rattle.tb_tree.specs.declared.node_test.Test.{Test}
 use Rattle.tb_pattern.specs.Faults.{literal_in}
 use Rattle.tb_pattern.specs.Plain.{PlainEdge, PlainEdges, edge}

@@ -1,6 +1,6 @@
 -- What the calls answer.
 use Rattle.std.specs.Prelude.{List, Result, Ok, Err, ⊤}
-use Rattle.tb_grammar.specs.Grammar.{Tok}
+use Rattle.tb_token.specs.grammar.Grammar.{Tok}
 use Rattle.tb_pattern.specs.Faults.{HasFault, HasNoFault}
 use Rattle.tb_pattern.specs.Value.{AskFor}
 use Rattle.tb_pattern.specs.View.{edges_of}

@@ -2,14 +2,14 @@
 use Rattle.std.specs.Prelude.{◌≡◌, ℕ, ◌+◌, ◌-◌, ◌<◌, ◌≤◌, Bool, true, false, ◌&&◌, ◌||◌, ◌==◌, nat_lt}
 use Rattle.std.specs.Prelude.{if◌then◌else◌, List, [], ◌∷◌, map, codes, ℤ, Option, Some, None, ⊤}
 use Rattle.std.specs.Option.{option_and_then}
-use Rattle.tb_grammar.specs.Grammar.{Tok, has}
-use Rattle.tb_grammar.specs.Words.{IsWrongAt}
+use Rattle.tb_token.specs.grammar.Grammar.{Tok, has}
+use Rattle.tb_token.specs.grammar.Words.{IsWrongAt}
 use Rattle.tb_number.specs.Range.{within_range}
 use Rattle.tb_number.specs.Reading.{integer_of}
-use Rattle.tb_token.specs.Letters.{letter_of}
-use Rattle.tb_token.specs.Patterns.{match_query}
-use Rattle.tb_token.specs.Queries.{rules}
-use Rattle.tb_token.specs.declared.token.Kind.TheVariants.{Number}
+use Rattle.tb_token.specs.tokens.Letters.{letter_of}
+use Rattle.tb_token.specs.grammar.Patterns.{match_query}
+use Rattle.tb_token.specs.grammar.Queries.{rules}
+use Rattle.tb_token.specs.declared.lexer.token.Kind.TheVariants.{Number}
 use Rattle.tb_pattern.specs.Letters.{is_sign, axis_letters}
 use Rattle.tb_pattern.specs.Syntax.{AreMatch}
 use Rattle.tb_pattern.specs.declared.fault.PatternFault.{PatternFault}

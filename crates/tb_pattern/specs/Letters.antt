@@ -1,8 +1,8 @@
 -- The letters of the tokens that patterns are written with.
 use Rattle.std.specs.Prelude.{ℕ, Bool, ◌==◌, List, [], ◌∷◌, map, codes}
-use Rattle.tb_token.specs.Letters.{letter_of}
-use Rattle.tb_token.specs.Names.{words}
-use Rattle.tb_token.specs.declared.token.Kind.TheVariants.{Name, Word, Sign}
+use Rattle.tb_token.specs.tokens.Letters.{letter_of}
+use Rattle.tb_token.specs.tokens.Names.{words}
+use Rattle.tb_token.specs.declared.lexer.token.Kind.TheVariants.{Name, Word, Sign}
 
 -- the letter is that of the sign
 abbrev pub is_sign : List ℕ → ℕ → Bool

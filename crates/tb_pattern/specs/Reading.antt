@@ -2,11 +2,11 @@
 -- that are still to come, which are the same at each depth.
 use Rattle.std.specs.Prelude.{ℕ, zero, suc, ◌+◌, Bool, false, ◌==◌, if◌then◌else◌}
 use Rattle.std.specs.Prelude.{List, [], ◌∷◌, codes, Option, Some, None}
-use Rattle.tb_grammar.specs.Grammar.{Part, both, either, maybe, many, has, row}
-use Rattle.tb_token.specs.Letters.{letter_of}
-use Rattle.tb_token.specs.Terminals.{word, sign, name, number, string, list_of, comma}
-use Rattle.tb_token.specs.Patterns.{doc, mark, test, cmp, literal, conds, edges, edge, edges_rest, match_query}
-use Rattle.tb_token.specs.declared.token.Kind.TheVariants.{Number, Quoted, TextTest, Word}
+use Rattle.tb_token.specs.grammar.Grammar.{Part, both, either, maybe, many, has, row}
+use Rattle.tb_token.specs.tokens.Letters.{letter_of}
+use Rattle.tb_token.specs.grammar.Terminals.{word, sign, name, number, string, list_of, comma}
+use Rattle.tb_token.specs.grammar.Patterns.{doc, mark, test, cmp, literal, conds, edges, edge, edges_rest, match_query}
+use Rattle.tb_token.specs.declared.lexer.token.Kind.TheVariants.{Number, Quoted, TextTest, Word}
 use Rattle.tb_pattern.specs.Letters.{signs_of, name_letters, axis_letters}
 use Rattle.tb_pattern.specs.Letters.{mark_letters, cmp_letters}
 use Rattle.tb_pattern.specs.declared.reading.Reading.{Reading}

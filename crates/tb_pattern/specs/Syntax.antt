@@ -1,9 +1,9 @@
 -- Whether tokens are a `MATCH` query.
 use Rattle.std.specs.Prelude.{ℕ, List, [], ◌∷◌, Option, Some, None}
-use Rattle.tb_grammar.specs.Grammar.{Tok}
-use Rattle.tb_grammar.specs.Words.{AreWord, IsWrongAt}
-use Rattle.tb_token.specs.Patterns.{match_query}
-use Rattle.tb_token.specs.Queries.{rules}
+use Rattle.tb_token.specs.grammar.Grammar.{Tok}
+use Rattle.tb_token.specs.grammar.Words.{AreWord, IsWrongAt}
+use Rattle.tb_token.specs.grammar.Patterns.{match_query}
+use Rattle.tb_token.specs.grammar.Queries.{rules}
 
 -- the tokens are a `MATCH` query
 abbrev pub AreMatch : List Tok → Type 0

@@ -1,8 +1,8 @@
 -- The pattern that the tree of a query stands for, production by production. A tree of another
 -- form is that of no query, and what it stands for here is never asked.
 use Rattle.std.specs.Prelude.{◌≡◌, ℕ, ◌-◌, Bool, true, false, if◌then◌else◌, List, [], ◌∷◌, length, take, drop, codes}
-use Rattle.tb_grammar.specs.Grammar.{Tok}
-use Rattle.tb_grammar.specs.Words.{Tree, leaf, nothing, pair, first, second, Derives}
+use Rattle.tb_token.specs.grammar.Grammar.{Tok}
+use Rattle.tb_token.specs.grammar.Words.{Tree, leaf, nothing, pair, first, second, Derives}
 use Rattle.tb_number.specs.IntText.{signed, number_of}
 use Rattle.tb_number.specs.declared.op.CmpOp.{CmpOp}
 use Rattle.tb_number.specs.declared.op.CmpOp.TheVariants as op
@@ -10,8 +10,8 @@ use Rattle.tb_span.specs.declared.item.Axis.{Axis}
 use Rattle.tb_span.specs.declared.item.Axis.TheVariants.{Child, Descendant}
 use Rattle.tb_tree.specs.declared.node_test.Test.{Test}
 use Rattle.tb_tree.specs.declared.node_test.Test.TheVariants as test
-use Rattle.tb_token.specs.Patterns.{match_query}
-use Rattle.tb_token.specs.Queries.{rules}
+use Rattle.tb_token.specs.grammar.Patterns.{match_query}
+use Rattle.tb_token.specs.grammar.Queries.{rules}
 use Rattle.tb_pattern.specs.Letters.{is_sign}
 use Rattle.tb_pattern.specs.Plain.{matching, PlainEdges, no_edges, edge}
 use Rattle.tb_pattern.specs.declared.cond.Cond.{Cond}

@@ -2,9 +2,9 @@
 //! inside each other are calls inside each other, and a query without fault has at most 32 of them.
 
 ghost use Rattle.std.specs.Prelude.{◌≡◌, ◌≤◌, IfOk, OnOk, length};
-ghost use Rattle.tb_grammar.specs.Grammar.{maybe};
-ghost use Rattle.tb_token.specs.Patterns as part;
-ghost use Rattle.tb_token.specs.Terminals.{comma};
+ghost use Rattle.tb_token.specs.grammar.Grammar.{maybe};
+ghost use Rattle.tb_token.specs.grammar.Patterns as part;
+ghost use Rattle.tb_token.specs.grammar.Terminals.{comma};
 ghost use Rattle.tb_pattern.specs.Building.{Builds};
 ghost use Rattle.tb_pattern.specs.BuiltParts.{Asks, bang};
 ghost use Rattle.tb_pattern.specs.BuiltParts.{AreEdges, AreBelow, IsEdge, IsWhole};

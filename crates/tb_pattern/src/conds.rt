@@ -1,12 +1,12 @@
 //! The conditions at the front of tokens that are a query.
 
 ghost use Rattle.std.specs.Prelude.{◌≡◌, ◌≤◌, IfOk, length};
-ghost use Rattle.tb_grammar.specs.Grammar.{maybe};
+ghost use Rattle.tb_token.specs.grammar.Grammar.{maybe};
 ghost use Rattle.tb_pattern.specs.Reading.{one_cond};
 ghost use Rattle.tb_pattern.specs.Building.{Builds, BuildsApart, next};
 ghost use Rattle.tb_pattern.specs.BuiltParts.{AreConds, IsCond, IsLiteral, number_or_zero};
 ghost use Rattle.tb_pattern.specs.Value.{bytes_in};
-ghost use Rattle.tb_token.specs.Patterns as part;
+ghost use Rattle.tb_token.specs.grammar.Patterns as part;
 
 use crate::front::{begins, behind, bytes, op, quoted};
 use crate::limits::literal_in;

@@ -1,7 +1,7 @@
 //! Names among the letters of tokens.
 
 ghost use Rattle.std.specs.Prelude.{◌≡◌};
-ghost use Rattle.tb_grammar.specs.Grammar.{has};
+ghost use Rattle.tb_token.specs.grammar.Grammar.{has};
 ghost use Rattle.tb_pattern.specs.Letters.{name_letters};
 
 use tb_token::letters::{NAME, has};

@@ -4,7 +4,7 @@ ghost use Rattle.std.specs.Prelude.{◌≡◌, ◌≤◌, IfOk, length};
 ghost use Rattle.tb_pattern.specs.Building.{Builds, next};
 ghost use Rattle.tb_pattern.specs.BuiltParts.{IsTest, IsAttribute, attribute};
 ghost use Rattle.tb_pattern.specs.Value.{bytes_in};
-ghost use Rattle.tb_token.specs.Patterns as part;
+ghost use Rattle.tb_token.specs.grammar.Patterns as part;
 
 use crate::front::{begins, begins_name, behind, bytes};
 use std::alloc::{AllocError, Global};

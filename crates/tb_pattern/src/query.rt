@@ -1,8 +1,8 @@
 //! A whole `MATCH` query.
 
 ghost use Rattle.std.specs.Prelude.{◌≤◌, length, None};
-ghost use Rattle.tb_token.specs.Cuts.{IsCut};
-ghost use Rattle.tb_token.specs.Letters.{toks_of};
+ghost use Rattle.tb_token.specs.tokens.Cuts.{IsCut};
+ghost use Rattle.tb_token.specs.tokens.Letters.{toks_of};
 ghost use Rattle.tb_pattern.specs.Calls.{Reads};
 
 use crate::build::pattern;

@@ -2,7 +2,7 @@
 use Rattle.std.proofs.Common.{◌≡◌, ℕ, Bool, true, false, not, ◌&&◌, List, [], ◌∷◌, ◌++◌, refl, ◌∙◌, codes}
 use Rattle.std.specs.List.{list_any}
 use Rattle.std.specs.Str.{bytes_eq}
-use Rattle.tb_grammar.specs.Grammar.{Tok}
+use Rattle.tb_token.specs.grammar.Grammar.{Tok}
 use Rattle.tb_scope.specs.Constructors.{is_sign, is_named, repeated_in}
 use Rattle.tb_scope.specs.Started.{is_repeated, attributes_behind}
 use Rattle.tb_scope.specs.Lent.{AreAlike}

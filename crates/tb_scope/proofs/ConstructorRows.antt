@@ -1,9 +1,9 @@
 -- The constructors of texts worked out by hand, computed; tokens are numbered from 1.
 use Rattle.std.proofs.Common.{◌≡◌, ℕ, zero, suc, true, false, List, [], ◌∷◌, ◌++◌, map, Option, Some, None, refl}
 use Rattle.std.specs.Prelude.{codes}
-use Rattle.tb_grammar.specs.Grammar.{Tok}
+use Rattle.tb_token.specs.grammar.Grammar.{Tok}
 use Rattle.tb_scope.specs.Constructors.{results, is_nested, first_wrong_tag, first_repeated_attribute}
-use Rattle.tb_token.proofs.QueryRows.{toks}
+use Rattle.tb_token.proofs.grammar.QueryRows.{toks}
 
 -- the texts of tokens
 abbrev texts : List Tok → List (List ℕ)

@@ -2,7 +2,7 @@
 use Rattle.std.proofs.Common.{◌≡◌, ℕ, List, [], ◌∷◌, Option, Some, None, refl}
 use Rattle.std.specs.Prelude.{codes}
 use Rattle.tb_scope.specs.Variables.{bound, clauses_in, first_repeated, first_unknown}
-use Rattle.tb_token.proofs.QueryRows.{toks}
+use Rattle.tb_token.proofs.grammar.QueryRows.{toks}
 
 abbrev unknown_in : List ℕ → Option ℕ
 unknown_in text = first_unknown (toks text)

@@ -3,9 +3,9 @@
 use Rattle.std.specs.Prelude.{ℕ, ◌+◌, ◌-◌, Bool, false, ◌&&◌, ◌||◌, ◌==◌, not, nat_lt, if◌then◌else◌, List, [], ◌∷◌, ◌++◌, codes, Option, Some, None}
 use Rattle.std.specs.List.{list_any}
 use Rattle.std.specs.Str.{bytes_eq}
-use Rattle.tb_grammar.specs.Grammar.{Tok, has}
-use Rattle.tb_token.specs.Letters.{letter_of}
-use Rattle.tb_token.specs.declared.token.Kind.TheVariants.{Word, Sign}
+use Rattle.tb_token.specs.grammar.Grammar.{Tok, has}
+use Rattle.tb_token.specs.tokens.Letters.{letter_of}
+use Rattle.tb_token.specs.declared.lexer.token.Kind.TheVariants.{Word, Sign}
 
 abbrev pub is_sign : List ℕ → ℕ → Bool
 is_sign text x = x == letter_of Sign text

@@ -1,6 +1,6 @@
 -- What one token does with variables, where these tokens follow it.
 use Rattle.std.specs.Prelude.{ℕ, Bool, ◌&&◌, not, if◌then◌else◌, List, [], ◌∷◌, ◌++◌}
-use Rattle.tb_grammar.specs.Grammar.{Tok}
+use Rattle.tb_token.specs.grammar.Grammar.{Tok}
 use Rattle.tb_scope.specs.Variables.{is_variable, binds}
 
 -- the token binds a variable

@@ -3,7 +3,7 @@
 use Rattle.std.specs.Prelude.{ℕ, Bool, ◌&&◌, ◌||◌, not, if◌then◌else◌, List, [], ◌∷◌, ◌++◌, codes}
 use Rattle.std.specs.List.{list_any}
 use Rattle.std.specs.Str.{bytes_eq}
-use Rattle.tb_grammar.specs.Grammar.{Tok}
+use Rattle.tb_token.specs.grammar.Grammar.{Tok}
 use Rattle.tb_scope.specs.Constructors.{is_sign, is_ended_by, closed, is_named}
 
 -- the token begins an end tag that has not the name of its start

@@ -3,9 +3,9 @@
 use Rattle.std.specs.Prelude.{ℕ, ◌-◌, Bool, false, ◌&&◌, ◌==◌, if◌then◌else◌, List, [], ◌∷◌, ◌++◌, length, take, codes, Option, Some, None}
 use Rattle.std.specs.List.{list_any}
 use Rattle.std.specs.Str.{bytes_eq}
-use Rattle.tb_grammar.specs.Grammar.{Tok, has}
-use Rattle.tb_token.specs.Letters.{letter_of}
-use Rattle.tb_token.specs.declared.token.Kind.TheVariants.{Word, Variable, Sign}
+use Rattle.tb_token.specs.grammar.Grammar.{Tok, has}
+use Rattle.tb_token.specs.tokens.Letters.{letter_of}
+use Rattle.tb_token.specs.declared.lexer.token.Kind.TheVariants.{Word, Variable, Sign}
 
 -- the tokens begin with the word MATCH
 abbrev pub is_match : List Tok → Bool

@@ -1,13 +1,3 @@
-pub mod AmongLaws
-pub mod LexemeLaws
-pub mod KindLaws
-pub mod SizeLaws
-pub mod SignLaws
-pub mod FrontLaws
-pub mod CutLaws
-pub mod DigitLaws
-pub mod PlaceLaws
-pub mod QueryLaws
-pub mod WorkedRows
-pub mod QueryRows
-pub mod WrongRows
+pub mod lexing
+pub mod grammar
+pub mod reading

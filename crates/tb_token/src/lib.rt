@@ -1,28 +1,27 @@
-//! The tokens and the grammar of queries.
+//! The tokens and the grammar of queries, and reading by any grammar.
 //!
 //! Readers of queries call it. What is proved is that `tokens` cuts a text into its longest tokens,
 //! or finds the first place at which none begins (`cut`), and that there is one such cut (`once`);
-//! that `lexemes` gives the tokens as the grammar sees them; and of the grammar that one token of
-//! look-ahead decides it (`readable`).
+//! that `lexemes` gives the tokens as the grammar sees them; of every grammar that one token of
+//! look-ahead decides, that it gives one tree (`tree`) and that `first_wrong` finds the first token
+//! that begins no word of it with those before; and that the grammar of queries is one of these
+//! (`readable`).
 #![tactic(auto)]
 
-mod bytes;
-mod cut;
-mod fault;
-mod front;
-mod letter;
-pub mod letters;
-mod lexeme;
-mod names;
+mod grammar_laws;
+mod lexer;
 mod query_laws;
-mod signs;
-mod token;
+mod reader;
 
-pub use cut::tokens;
-pub use fault::LexFault;
-pub use lexeme::{Lexeme, lexemes};
+pub use grammar_laws::laws;
+pub use lexer::cut::tokens;
+pub use lexer::fault::LexFault;
+pub use lexer::letters;
+pub use lexer::lexeme::{Lexeme, lexemes};
+pub use lexer::token::{Kind, Token};
 pub use query_laws::laws_of_queries;
-pub use token::{Kind, Token};
+pub use reader::part::{Grammar, Part};
+pub use reader::wrong::first_wrong;
 
 #[cfg(test)]
 mod tests;

@@ -1,14 +1,14 @@
 -- The text of a query has one first fault, or none.
 use Rattle.std.proofs.Common.{◌≡◌, ℕ, ◌<◌, ◌⊎◌, inl, inr, Option, Some, None, List, [], ◌∷◌, length, refl, sym, ap, ◌∙◌, subst, arith}
-use Rattle.tb_grammar.specs.Grammar.{Tok}
-use Rattle.tb_grammar.specs.Words.{IsWrongAt}
-use Rattle.tb_grammar.proofs.TreeLaws.{wrong-once}
-use Rattle.tb_token.specs.Letters.{toks_of}
-use Rattle.tb_token.specs.Queries.{rules, query}
-use Rattle.tb_token.specs.declared.token.Token.{Token}
-use Rattle.tb_token.specs.declared.fault.LexFault.{LexFault}
-use Rattle.tb_token.specs.declared.fault.LexFault.TheVariants as lex
-use Rattle.tb_token.proofs.CutLaws.{one_cut}
+use Rattle.tb_token.specs.grammar.Grammar.{Tok}
+use Rattle.tb_token.specs.grammar.Words.{IsWrongAt}
+use Rattle.tb_token.proofs.grammar.TreeLaws.{wrong-once}
+use Rattle.tb_token.specs.tokens.Letters.{toks_of}
+use Rattle.tb_token.specs.grammar.Queries.{rules, query}
+use Rattle.tb_token.specs.declared.lexer.token.Token.{Token}
+use Rattle.tb_token.specs.declared.lexer.fault.LexFault.{LexFault}
+use Rattle.tb_token.specs.declared.lexer.fault.LexFault.TheVariants as lex
+use Rattle.tb_token.proofs.lexing.CutLaws.{one_cut}
 use Rattle.tb_flwor.specs.Faults.{first_fault, AreQuery, AreTokens}
 use Rattle.tb_flwor.specs.declared.fault.QueryFault.{QueryFault}
 use Rattle.tb_flwor.specs.declared.fault.QueryFault.TheVariants.{TooLong, BadByte, OpenString, Syntax, TooNested, TooManyNodes, TooManyVariables, UnknownVariable, RepeatedVariable, LiteralPast, WrongTag, RepeatedAttribute, NoMemory}

@@ -1,6 +1,6 @@
 -- Steps are built one after the other.
 use Rattle.std.proofs.Common.{sym, ◌∙◌}
-use Rattle.tb_token.specs.Paths.{step}
+use Rattle.tb_token.specs.grammar.Paths.{step}
 use Rattle.tb_flwor.specs.Value.{more_steps}
 use Rattle.tb_flwor.proofs.RunLaws.{far-start}
 use Rattle.tb_flwor.proofs.PathLaws.{put, steps-next, steps-end}

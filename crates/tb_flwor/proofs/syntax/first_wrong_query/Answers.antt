@@ -1,5 +1,5 @@
 -- The value is the grammar of queries, part by part.
-use Rattle.tb_reading.proofs.Views.{part_of-One, part_of-Both, part_of-Either, part_of-Maybe, part_of-Many, part_of-Opened}
+use Rattle.tb_token.proofs.reading.Views.{part_of-One, part_of-Both, part_of-Either, part_of-Maybe, part_of-Many, part_of-Opened}
 use Rattle.tb_flwor.proofs.SyntaxLaws.{says-query}
 use Rattle.tb_flwor.proofs.syntax.first_wrong_query.Goals as goal
 

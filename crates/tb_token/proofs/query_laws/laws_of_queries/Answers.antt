@@ -1,4 +1,4 @@
-use Rattle.tb_token.proofs.QueryLaws.{readable, one-query, is-written_path}
+use Rattle.tb_token.proofs.grammar.QueryLaws.{readable, one-query, is-written_path}
 use Rattle.tb_token.proofs.query_laws.laws_of_queries.Goals as goal
 
 pub returns-clause-readable : goal.returns-clause-readable

@@ -1,8 +1,0 @@
--- Grammars of tokens, from their parts to the place where a list is wrong; then how one token of
--- look-ahead reads them, when that decides, and what holds then.
-pub mod Grammar
-pub mod Words
-pub mod Reading
-pub mod Decided
-pub mod Places
-pub mod Laws

@@ -1,0 +1,10 @@
+pub mod LetterLaws
+pub mod StartLaws
+pub mod WordLaws
+pub mod ReadLaws
+pub mod TreeLaws
+pub mod PlaceLaws
+pub mod WorkedRows
+pub mod QueryLaws
+pub mod QueryRows
+pub mod WrongRows

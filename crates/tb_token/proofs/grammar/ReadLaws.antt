@@ -1,0 +1,282 @@
+-- A reading with one token of look-ahead goes on exactly as far as a word can.
+use Rattle.std.proofs.Common.{◌≡◌, ◌⊎◌, inl, inr, ⊎_elim, ℕ, zero, suc, ◌+◌, ◌-◌, ◌<◌, ◌≤◌, Bool, true, false, cond, List, [], ◌∷◌, ◌++◌, length, take, Option, Some, None, refl, sym, ap, ◌∙◌, arith, append-nil}
+use Rattle.std.proofs.lemmas.Bool.{and_parts}
+use Rattle.tb_token.specs.grammar.Grammar.{Tok, Part, one, both, either, maybe, many, opened, Rules, has}
+use Rattle.tb_token.specs.grammar.Words.{Tree, Derives, by_one, by_both, by_first, by_second, left_out, put_in, no_more, one_more, by_rule, AreWord, Begin, IsWrongAt}
+use Rattle.tb_token.specs.grammar.Reading.{is_filled, may_end, own_starts, takes, after, read}
+use Rattle.tb_token.specs.grammar.Decided.{are_apart, all_starts, AreDecided, AreGood}
+use Rattle.tb_token.proofs.grammar.LetterLaws.{none-true, or-cases, apart-none}
+use Rattle.tb_token.proofs.grammar.WordLaws.{both-decided, first-decided, second-decided, maybe-decided, many-decided, rule-decided, either-filled, maybe-filled, many-filled, word-starts, own-starts, none-ends, word-one, word-both, word-first, word-second, word-left_out, word-put_in, word-no_more, word-one_more, word-rule, none-word, have-word}
+
+some-is : {A : Type 0} (x y : A) → ◌≡◌ {A = Option A} (Some x) (Some y) → x ≡ y
+some-is x y e = cc
+
+none-some : {A : Type 0} {P : Type 0} (x : A) → ◌≡◌ {A = Option A} None (Some x) → P
+none-some x e = absurd cc
+
+if-some : {A : Type 0} (b : Bool) (x y : A) → ◌≡◌ {A = Option A} (cond b (Some x) None) (Some y) → (b ≡ true) × (x ≡ y)
+if-some true x y e = (refl, some-is x y e)
+if-some false x y e = none-some y e
+
+-- a choice gave this
+if-cases : {A : Type 0} (b : Bool) (o u : Option A) (y : A) → cond b o u ≡ Some y → ((b ≡ true) × (o ≡ Some y)) ⊎ ((b ≡ false) × (u ≡ Some y))
+if-cases true o u y e = inl (refl, e)
+if-cases false o u y e = inr (refl, e)
+
+-- What the reading takes, words take.
+
+module _ (rules : Rules) (t : Tok) (s : List Tok) where
+  -- from what is still to come once the parts have taken the token, the rest is a word
+  abbrev Leads : Option (List Part) → List Part → Type 0
+  Leads o ps = (hs : List Part) → o ≡ Some hs → AreWord rules hs s → AreWord rules ps (t ∷ s)
+
+  none-leads : (ps : List Part) → Leads None ps
+  none-leads ps = λ hs e word. none-some hs e
+
+  takes-leads : (p : Part) (ps : List Part) (o : Option (List Part)) → Leads o ps → Leads (takes rules p t.letter ps o) (p ∷ ps)
+  takes-leads (one c) ps o leads = λ hs e word.
+      let is = if-some (has c t.letter) ps hs e in
+      word-one rules c t ps s is.0 (rw is.1 word)
+  takes-leads (both p q) ps o leads = λ hs e word.
+      word-both rules p q ps (t ∷ s) (takes-leads p (q ∷ ps) (takes rules q t.letter ps o) (takes-leads q ps o leads) hs e word)
+  takes-leads (either p q) ps o leads = λ hs e word.
+      ⊎_elim
+      (λ one_is. word-first rules p q ps (t ∷ s) (takes-leads p ps o leads hs one_is.1 word))
+      (λ two_is. word-second rules p q ps (t ∷ s) (takes-leads q ps o leads hs two_is.1 word))
+      (if-cases (has (own_starts p) t.letter) (takes rules p t.letter ps o) (takes rules q t.letter ps o) hs e)
+  takes-leads (maybe p) ps o leads = λ hs e word.
+      ⊎_elim
+      (λ one_is. word-put_in rules p ps (t ∷ s) (takes-leads p ps o leads hs one_is.1 word))
+      (λ two_is. word-left_out rules p ps (t ∷ s) (leads hs two_is.1 word))
+      (if-cases (has (own_starts p) t.letter) (takes rules p t.letter ps o) o hs e)
+  takes-leads (many p) ps o leads = λ hs e word.
+      ⊎_elim
+      (λ one_is. word-one_more rules p ps (t ∷ s) (takes-leads p (many p ∷ ps) None (none-leads (many p ∷ ps)) hs one_is.1 word))
+      (λ two_is. word-no_more rules p ps (t ∷ s) (leads hs two_is.1 word))
+      (if-cases (has (own_starts p) t.letter) (takes rules p t.letter (many p ∷ ps) None) o hs e)
+  takes-leads (opened c n) ps o leads = λ hs e word.
+      let is = if-some (has c t.letter) (rules n ∷ ps) hs e in
+      word-rule rules c n t ps s is.0 (rw is.1 word)
+
+  pub after-leads : (ps : List Part) → Leads (after rules ps t.letter) ps
+  after-leads [] = none-leads []
+  after-leads (p ∷ ps) = takes-leads p ps (after rules ps t.letter) (after-leads ps)
+
+-- what a filled part takes does not depend on what is behind it
+pub takes-filled : (rules : Rules) (p : Part) (x : ℕ) (ps : List Part) (o u : Option (List Part)) → is_filled p ≡ true → takes rules p x ps o ≡ takes rules p x ps u
+takes-filled rules (one c) x ps o u filled = refl
+takes-filled rules (both p q) x ps o u filled =
+    ⊎_elim
+    (λ one_is. takes-filled rules p x (q ∷ ps) (takes rules q x ps o) (takes rules q x ps u) one_is)
+    (λ two_is. ap (λ r. takes rules p x (q ∷ ps) r) (takes-filled rules q x ps o u two_is))
+    (or-cases (is_filled p) (is_filled q) filled)
+takes-filled rules (either p q) x ps o u filled =
+    let parts = and_parts (is_filled p) (is_filled q) filled in
+    let one_is = takes-filled rules p x ps o u parts.0 in
+    let two_is = takes-filled rules q x ps o u parts.1 in
+    rw (one_is, two_is) refl
+takes-filled rules (maybe p) x ps o u filled = none-true false refl filled
+takes-filled rules (many p) x ps o u filled = none-true false refl filled
+takes-filled rules (opened c n) x ps o u filled = refl
+
+-- a letter that the second begin with, the first do not
+none-by : (xs ys : List ℕ) (x : ℕ) → are_apart xs ys ≡ true → has ys x ≡ true → has xs x ≡ false
+none-by xs ys x apart there = by (has xs x) refl
+  where
+    by : (is : Bool) → has xs x ≡ is → is ≡ false
+    by true e = none-true (has ys x) (apart-none xs ys x apart e) there
+    by false e = refl
+
+module _ (rules : Rules) (follow : ℕ → List ℕ) (good : AreGood rules follow) where
+  -- What words take, the reading takes.
+
+  -- the reading takes the token, and the rest is a word of what is still to come
+  pub record GoesOn (ps : List Part) (t : Tok) (s : List Tok) : Type 0 where
+    pub to_come : List Part
+    pub goes : after rules ps t.letter ≡ Some to_come
+    pub word : AreWord rules to_come s
+
+  pub word-goes : {ps : List Part} {vs : List Tree} {t : Tok} {s : List Tok} → AreDecided follow ps → Derives rules ps vs (t ∷ s) → GoesOn ps t s
+  word-goes {s = s} d (by_one {ps = ps} {vs = vs} h w) = record { to_come = ps; goes = rw h refl; word = (vs, w) }
+  word-goes d (by_both {p = p} {q = q} {ps = ps} w) =
+      let on = word-goes (both-decided rules follow good p q ps d) w in
+      record { to_come = on.to_come; goes = on.goes; word = on.word }
+  word-goes d (by_first {p = p} {q = q} {ps = ps} w) =
+      let filled = either-filled rules follow good p q ps d in
+      let here = own-starts rules follow good (first-decided rules follow good p q ps d) filled.0 w in
+      let on = word-goes (first-decided rules follow good p q ps d) w in
+      record { to_come = on.to_come; goes = rw here on.goes; word = on.word }
+  word-goes {t = t} d (by_second {p = p} {q = q} {ps = ps} w) =
+      let filled = either-filled rules follow good p q ps d in
+      let there = own-starts rules follow good (second-decided rules follow good p q ps d) filled.1 w in
+      let other = none-by (own_starts p) (own_starts q) t.letter filled.2 there in
+      let on = word-goes (second-decided rules follow good p q ps d) w in
+      record { to_come = on.to_come; goes = rw other on.goes; word = on.word }
+  word-goes {t = t} d (left_out {p = p} {ps = ps} w) =
+      let filled = maybe-filled rules follow good p ps d in
+      let other = none-by (own_starts p) (all_starts ps) t.letter filled.1 (word-starts rules follow good d.1 w) in
+      let on = word-goes d.1 w in
+      record { to_come = on.to_come; goes = rw other on.goes; word = on.word }
+  word-goes d (put_in {p = p} {ps = ps} w) =
+      let filled = maybe-filled rules follow good p ps d in
+      let here = own-starts rules follow good (maybe-decided rules follow good p ps d) filled.0 w in
+      let on = word-goes (maybe-decided rules follow good p ps d) w in
+      record { to_come = on.to_come; goes = rw here on.goes; word = on.word }
+  word-goes {t = t} d (no_more {p = p} {ps = ps} w) =
+      let filled = many-filled rules follow good p ps d in
+      let other = none-by (own_starts p) (all_starts ps) t.letter filled.1 (word-starts rules follow good d.1 w) in
+      let on = word-goes d.1 w in
+      record { to_come = on.to_come; goes = rw other on.goes; word = on.word }
+  word-goes {t = t} d (one_more {p = p} {ps = ps} w) =
+      let filled = many-filled rules follow good p ps d in
+      let here = own-starts rules follow good (many-decided rules follow good p ps d) filled.0 w in
+      let on = word-goes (many-decided rules follow good p ps d) w in
+      let same = takes-filled rules p t.letter (many p ∷ ps) None (after rules (many p ∷ ps) t.letter) filled.0 in
+      record { to_come = on.to_come; goes = rw (here, same) on.goes; word = on.word }
+  word-goes {s = s} d (by_rule {n = n} {ps = ps} {v = v} {vs = vs} h w) = record { to_come = rules n ∷ ps; goes = rw h refl; word = (v ∷ vs, w) }
+
+  -- What is still to come, is decided.
+
+  abbrev Stays : Option (List Part) → Type 0
+  Stays o = (hs : List Part) → o ≡ Some hs → AreDecided follow hs
+
+  none-stays : Stays None
+  none-stays = λ hs e. none-some hs e
+
+  takes-decided : (p : Part) (x : ℕ) (ps : List Part) (o : Option (List Part)) → AreDecided follow (p ∷ ps) → Stays o → Stays (takes rules p x ps o)
+  takes-decided (one c) x ps o d stays = λ hs e. let is = if-some (has c x) ps hs e in rw (← is.1) d.1
+  takes-decided (both p q) x ps o d stays =
+      let two = both-decided rules follow good p q ps d in
+      takes-decided p x (q ∷ ps) (takes rules q x ps o) two (takes-decided q x ps o two.1 stays)
+  takes-decided (either p q) x ps o d stays = λ hs e.
+      ⊎_elim
+      (λ one_is. takes-decided p x ps o (first-decided rules follow good p q ps d) stays hs one_is.1)
+      (λ two_is. takes-decided q x ps o (second-decided rules follow good p q ps d) stays hs two_is.1)
+      (if-cases (has (own_starts p) x) (takes rules p x ps o) (takes rules q x ps o) hs e)
+  takes-decided (maybe p) x ps o d stays = λ hs e.
+      ⊎_elim
+      (λ one_is. takes-decided p x ps o (maybe-decided rules follow good p ps d) stays hs one_is.1)
+      (λ two_is. stays hs two_is.1)
+      (if-cases (has (own_starts p) x) (takes rules p x ps o) o hs e)
+  takes-decided (many p) x ps o d stays = λ hs e.
+      ⊎_elim
+      (λ one_is. takes-decided p x (many p ∷ ps) None (many-decided rules follow good p ps d) none-stays hs one_is.1)
+      (λ two_is. stays hs two_is.1)
+      (if-cases (has (own_starts p) x) (takes rules p x (many p ∷ ps) None) o hs e)
+  takes-decided (opened c n) x ps o d stays = λ hs e.
+      let is = if-some (has c x) (rules n ∷ ps) hs e in
+      rw (← is.1) (rule-decided rules follow good c n ps d)
+
+  after-decided : (ps : List Part) (x : ℕ) → AreDecided follow ps → Stays (after rules ps x)
+  after-decided [] x d = none-stays
+  after-decided (p ∷ ps) x d = takes-decided p x ps (after rules ps x) d (after-decided ps x d.1)
+
+  -- A word's tokens and more begin as their first token does.
+  begin-goes : (ps : List Part) (t : Tok) (s : List Tok) (hs : List Part) → AreDecided follow ps → after rules ps t.letter ≡ Some hs → Begin rules ps (t ∷ s) → Begin rules hs s
+  begin-goes ps t s hs d e begin =
+      let on = word-goes d begin.1.1 in
+      let same = some-is hs on.to_come (sym e ∙ on.goes) in
+      (begin.0, rw same on.word)
+
+  begin-stops : {P : Type 0} (ps : List Part) (t : Tok) (s : List Tok) → AreDecided follow ps → after rules ps t.letter ≡ None → Begin rules ps (t ∷ s) → P
+  begin-stops ps t s d e begin =
+      let on = word-goes d begin.1.1 in
+      none-some on.to_come (sym e ∙ on.goes)
+
+  begin-none : (ps : List Part) → AreDecided follow ps → Begin rules ps []
+  begin-none ps d = have-word rules follow good ps d
+
+  begin-more : (ps : List Part) (t : Tok) (s : List Tok) (hs : List Part) → after rules ps t.letter ≡ Some hs → Begin rules hs s → Begin rules ps (t ∷ s)
+  begin-more ps t s hs e begin = (begin.0, after-leads rules t (s ++ begin.0) ps hs e begin.1)
+
+  begin-word : (ps : List Part) (s : List Tok) → AreWord rules ps s → Begin rules ps s
+  begin-word ps s word = ([], rw append-nil word)
+
+  -- the list is wrong at its first token
+  wrong-first : (ps : List Part) (t : Tok) (s : List Tok) → AreDecided follow ps → after rules ps t.letter ≡ None → IsWrongAt rules ps (t ∷ s) 1
+  wrong-first ps t s d e = record {
+    some = omega arith;
+    within = omega arith;
+    before = λ j below. let zero_is : j ≡ 0 = omega arith in rw zero_is (begin-none ps d);
+    here = λ within begin. begin-stops ps t [] d e begin;
+    none = λ word. begin-stops ps t s d e (begin-word ps (t ∷ s) word);
+  }
+
+  -- the list ends too early
+  wrong-end : (ps : List Part) → AreDecided follow ps → may_end ps ≡ false → IsWrongAt rules ps [] 1
+  wrong-end ps d e = record {
+    some = omega arith;
+    within = omega arith;
+    before = λ j below. let zero_is : j ≡ 0 = omega arith in rw zero_is (begin-none ps d);
+    here = λ within begin. absurd (omega arith);
+    none = λ word. none-true (may_end ps) e (none-ends word.1);
+  }
+
+  before-more : (ps : List Part) (t : Tok) (s : List Tok) (hs : List Part) → AreDecided follow ps → after rules ps t.letter ≡ Some hs → (k : ℕ) → ((j : ℕ) → j < k → Begin rules hs (take j s))
+      → (j : ℕ) → j < suc k → Begin rules ps (take j (t ∷ s))
+  before-more ps t s hs d e k before zero below = begin-none ps d
+  before-more ps t s hs d e k before (suc j) below = begin-more ps t (take j s) hs e (before j (omega arith))
+
+  -- the list is wrong behind its first token
+  wrong-more : (ps : List Part) (t : Tok) (s : List Tok) (hs : List Part) (k : ℕ) → AreDecided follow ps → after rules ps t.letter ≡ Some hs → IsWrongAt rules hs s k → IsWrongAt rules ps (t ∷ s) (suc k)
+  wrong-more ps t s hs k d e wrong = record {
+    some = omega arith;
+    within = let le = wrong.within in omega arith;
+    before = before-more ps t s hs d e k wrong.before;
+    here = λ within begin. wrong.here (omega arith) (begin-goes ps t (take k s) hs d e begin);
+    none = λ word.
+        let on = word-goes d word.1 in
+        let same = some-is hs on.to_come (sym e ∙ on.goes) in
+        wrong.none (rw same on.word);
+  }
+
+  -- no more tokens are left than there are
+  read-le : (s : List Tok) (ps : List Part) (left : ℕ) → read rules s (Some ps) ≡ Some left → left ≤ length s
+  read-le [] ps left e = by (may_end ps) e
+    where
+      by : (ends : Bool) → ◌≡◌ {A = Option ℕ} (cond ends None (Some 0)) (Some left) → left ≤ 0
+      by true e = none-some left e
+      by false e = let same = some-is 0 left e in omega arith
+  read-le (t ∷ s) ps left e = by (after rules ps t.letter) e (λ hs f. read-le s hs left f)
+    where
+      by : (o : Option (List Part)) → read rules s o ≡ Some left → ((hs : List Part) → read rules s (Some hs) ≡ Some left → left ≤ length s) → left ≤ suc (length s)
+      by None e rest = let same = some-is (1 + length s) left e in omega arith
+      by (Some hs) e rest = let le = rest hs e in omega arith
+
+  -- Where the reading stops, the list is wrong.
+  pub read-wrong : (s : List Tok) (ps : List Part) (left : ℕ) → AreDecided follow ps → read rules s (Some ps) ≡ Some left → IsWrongAt rules ps s (length s - left + 1)
+  read-wrong [] ps left d e = by (may_end ps) refl e
+    where
+      by : (ends : Bool) → may_end ps ≡ ends → ◌≡◌ {A = Option ℕ} (cond ends None (Some 0)) (Some left) → IsWrongAt rules ps [] (0 - left + 1)
+      by true f e = none-some left e
+      by false f e =
+          let same = some-is 0 left e in
+          let size : 0 - left + 1 ≡ 1 = omega arith in
+          rw size (wrong-end ps d f)
+  read-wrong (t ∷ s) ps left d e = by (after rules ps t.letter) refl e (λ hs stays f. read-wrong s hs left stays f)
+    where
+      by : (o : Option (List Part)) → after rules ps t.letter ≡ o → read rules s o ≡ Some left
+          → ((hs : List Part) → AreDecided follow hs → read rules s (Some hs) ≡ Some left → IsWrongAt rules hs s (length s - left + 1))
+          → IsWrongAt rules ps (t ∷ s) (suc (length s) - left + 1)
+      by None f e rest =
+          let same = some-is (1 + length s) left e in
+          let size : suc (length s) - left + 1 ≡ 1 = omega arith in
+          rw size (wrong-first ps t s d f)
+      by (Some hs) f e rest =
+          let wrong = rest hs (after-decided ps t.letter d hs f) e in
+          let le = read-le s hs left e in
+          let size : suc (length s) - left + 1 ≡ suc (length s - left + 1) = omega arith in
+          rw size (wrong-more ps t s hs (length s - left + 1) d f wrong)
+
+  -- Where the reading comes to the end, the list is a word.
+  pub read-word : (s : List Tok) (ps : List Part) → read rules s (Some ps) ≡ None → AreWord rules ps s
+  read-word [] ps e = by (may_end ps) refl e
+    where
+      by : (ends : Bool) → may_end ps ≡ ends → ◌≡◌ {A = Option ℕ} (cond ends None (Some 0)) None → AreWord rules ps []
+      by true f e = none-word rules ps f
+      by false f e = none-some 0 (sym e)
+  read-word (t ∷ s) ps e = by (after rules ps t.letter) refl e (λ hs f. read-word s hs f)
+    where
+      by : (o : Option (List Part)) → after rules ps t.letter ≡ o → read rules s o ≡ None → ((hs : List Part) → read rules s (Some hs) ≡ None → AreWord rules hs s) → AreWord rules ps (t ∷ s)
+      by None f e rest = none-some (1 + length s) (sym e)
+      by (Some hs) f e rest = after-leads rules t s ps hs f (rest hs e)

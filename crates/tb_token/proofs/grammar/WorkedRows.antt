@@ -1,0 +1,43 @@
+-- Rows worked out by hand: a list of letters in parentheses, `( a , a )`, in which such lists may stand.
+use Rattle.std.proofs.Common.{◌≡◌, ℕ, false, List, [], ◌∷◌, map, Some, None, refl}
+use Rattle.tb_token.specs.grammar.Grammar.{Tok, Part, one, both, either, many, opened, Rules, row}
+use Rattle.tb_token.specs.grammar.Reading.{read}
+use Rattle.tb_token.specs.grammar.Decided.{is_decided, AreDecided, AreGood}
+
+-- the letters 1 `(`, 2 `)`, 3 `,`, 4 `a`
+abbrev nested : Part
+nested = opened (1 ∷ []) 0
+
+abbrev item : Part
+item = either (one (4 ∷ [])) nested
+
+abbrev rules : Rules
+rules n = row item (many (both (one (3 ∷ [])) item) ∷ one (2 ∷ []) ∷ [])
+
+abbrev follow : ℕ → List ℕ
+follow n = 2 ∷ 3 ∷ []
+
+pub rules-good : AreGood rules follow
+rules-good = record { decided = λ n. refl; easy = λ n. refl }
+
+pub nested-decided : AreDecided follow (nested ∷ [])
+nested-decided = (refl, tt)
+
+abbrev toks : List ℕ → List Tok
+toks letters = map (λ x. record { letter = x; bytes = []; number = 0 }) letters
+
+-- `( a , ( a ) )`
+pub read-word : read rules (toks (1 ∷ 4 ∷ 3 ∷ 1 ∷ 4 ∷ 2 ∷ 2 ∷ [])) (Some (nested ∷ [])) ≡ None
+read-word = refl
+
+-- `( a , )` is wrong at its fourth token, and one is left
+pub read-wrong : read rules (toks (1 ∷ 4 ∷ 3 ∷ 2 ∷ [])) (Some (nested ∷ [])) ≡ Some 1
+read-wrong = refl
+
+-- `( a ,` ends too early
+pub read-early : read rules (toks (1 ∷ 4 ∷ 3 ∷ [])) (Some (nested ∷ [])) ≡ Some 0
+read-early = refl
+
+-- a choice of two parts that begin alike is not decided
+pub alike-undecided : is_decided follow [] (either (both (one (4 ∷ [])) (one (3 ∷ []))) (one (4 ∷ []))) ≡ false
+alike-undecided = refl

@@ -1,0 +1,10 @@
+pub mod AmongLaws
+pub mod LexemeLaws
+pub mod KindLaws
+pub mod SizeLaws
+pub mod SignLaws
+pub mod FrontLaws
+pub mod CutLaws
+pub mod DigitLaws
+pub mod PlaceLaws
+pub mod WorkedRows

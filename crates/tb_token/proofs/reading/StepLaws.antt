@@ -1,0 +1,74 @@
+-- What a step does to a stack, and to what is still to come.
+use Rattle.std.proofs.Common.{◌≡◌, ℕ, Bool, true, false, cond, ◌||◌, ◌==◌, List, [], ◌∷◌, ◌++◌, Option, Some, None, refl, sym, ap, ◌∙◌, append_assoc}
+use Rattle.std.specs.Borrow.{Bor}
+use Rattle.tb_token.specs.grammar.Grammar as grammar
+use Rattle.tb_token.specs.grammar.Grammar.{one, both, either, maybe, many, opened, has, Rules}
+use Rattle.tb_token.specs.grammar.Reading.{starts, own_starts, takes}
+use Rattle.tb_token.specs.reading.View.{part_of}
+use Rattle.tb_token.specs.reading.Machine.{begins_by, Step, taken, passed, stuck, or_else, step}
+use Rattle.tb_token.specs.reading.Stack.{parts_in}
+use Rattle.tb_token.specs.declared.reader.part.Part.{Part}
+
+-- the top of a stack comes first
+pub parts_in-push : (stack : List (Bor Part)) (p : Bor Part) → parts_in (stack ++ p ∷ []) ≡ part_of p.now ∷ parts_in stack
+parts_in-push [] p = refl
+parts_in-push (q ∷ above) p = ap (λ ps. ps ++ part_of q.now ∷ []) (parts_in-push above p)
+
+has-append : (xs ys : List ℕ) (x : ℕ) → has (xs ++ ys) x ≡ (has xs x || has ys x)
+has-append [] ys x = refl
+has-append (y ∷ xs) ys x = ap (λ b. y == x || b) (has-append xs ys x) ∙ by (y == x) (has xs x) (has ys x)
+  where
+    by : (a b c : Bool) → (a || (b || c)) ≡ ((a || b) || c)
+    by true b c = refl
+    by false b c = refl
+
+-- a part begins with the letter where it is among its starts
+pub begins-starts : (p : grammar.Part) (xs : List ℕ) (x : ℕ) → begins_by p x (has xs x) ≡ has (starts p xs) x
+begins-starts (one c) xs x = refl
+begins-starts (both p q) xs x = ap (λ b. begins_by p x b) (begins-starts q xs x) ∙ begins-starts p (starts q xs) x
+begins-starts (either p q) xs x =
+    let one_is = begins-starts p xs x in
+    let two_is = begins-starts q xs x in
+    rw (one_is, two_is) (sym (has-append (starts p xs) (starts q xs) x))
+begins-starts (maybe p) xs x = rw (begins-starts p xs x) (sym (has-append (starts p xs) xs x))
+begins-starts (many p) xs x = rw (begins-starts p xs x) (sym (has-append (starts p xs) xs x))
+begins-starts (opened c n) xs x = refl
+
+begins-own : (p : grammar.Part) (x : ℕ) → begins_by p x false ≡ has (own_starts p) x
+begins-own p x = begins-starts p [] x
+
+-- what is still to come behind a step
+abbrev pub behind : Step → List grammar.Part → Option (List grammar.Part) → Option (List grammar.Part)
+behind (taken rs) ps other = Some (rs ++ ps)
+behind passed ps other = other
+behind stuck ps other = None
+
+behind-or : (s t : Step) (q : grammar.Part) (ps : List grammar.Part) (other : Option (List grammar.Part))
+    → behind (or_else s q t) ps other ≡ behind s (q ∷ ps) (behind t ps other)
+behind-or (taken rs) t q ps other = ap (λ l. Some l) (append_assoc rs (q ∷ []) ps)
+behind-or passed t q ps other = refl
+behind-or stuck t q ps other = refl
+
+behind-cond : (b : Bool) (s t : Step) (ps : List grammar.Part) (other : Option (List grammar.Part))
+    → behind (cond b s t) ps other ≡ cond b (behind s ps other) (behind t ps other)
+behind-cond true s t ps other = refl
+behind-cond false s t ps other = refl
+
+module _ (rules : Rules) (x : ℕ) where
+  -- a step is what the part takes
+  pub step-takes : (p : grammar.Part) (ps : List grammar.Part) (other : Option (List grammar.Part)) → behind (step rules p x) ps other ≡ takes rules p x ps other
+  step-takes (one c) ps other = behind-cond (has c x) (taken []) stuck ps other
+  step-takes (both p q) ps other =
+      behind-or (step rules p x) (step rules q x) q ps other ∙ ap (λ o. behind (step rules p x) (q ∷ ps) o) (step-takes q ps other)
+      ∙ step-takes p (q ∷ ps) (takes rules q x ps other)
+  step-takes (either p q) ps other =
+      let one_is = step-takes p ps other in
+      let two_is = step-takes q ps other in
+      behind-cond (begins_by p x false) (step rules p x) (step rules q x) ps other ∙ rw (one_is, two_is, begins-own p x) refl
+  step-takes (maybe p) ps other =
+      let one_is = step-takes p ps other in
+      behind-cond (begins_by p x false) (step rules p x) passed ps other ∙ rw (one_is, begins-own p x) refl
+  step-takes (many p) ps other =
+      let one_is = behind-or (step rules p x) stuck (many p) ps other ∙ step-takes p (many p ∷ ps) None in
+      behind-cond (begins_by p x false) (or_else (step rules p x) (many p) stuck) passed ps other ∙ rw (one_is, begins-own p x) refl
+  step-takes (opened c n) ps other = behind-cond (has c x) (taken (rules n ∷ [])) stuck ps other

@@ -1,0 +1,66 @@
+-- The grammar of queries, line by line as docs/FORMATS.md has it but for `path`, and its rules.
+use Rattle.std.specs.Prelude.{ℕ, zero, suc, List, [], ◌∷◌, map, codes}
+use Rattle.tb_token.specs.grammar.Grammar.{Part, one, both, either, maybe, many, Rules, row}
+use Rattle.tb_token.specs.tokens.Letters.{letter_of}
+use Rattle.tb_token.specs.declared.lexer.token.Kind.TheVariants.{Word, Quoted, Sign}
+use Rattle.tb_token.specs.grammar.Terminals.{word, sign, name, variable, list_of, comma}
+use Rattle.tb_token.specs.grammar.Patterns.{cmp, literal, edges_rest, match_query}
+use Rattle.tb_token.specs.grammar.Paths.{longpath, path, operand}
+use Rattle.tb_token.specs.grammar.Results.{cons_rest, back}
+
+-- VARIABLE [ ALLOWING EMPTY ] IN longpath
+abbrev pub bind : Part
+bind =
+    row variable (maybe (both (word (codes "ALLOWING")) (word (codes "EMPTY")))
+    ∷ word (codes "IN") ∷ longpath ∷ [])
+
+-- FOR bind { "," bind } | LET VARIABLE ":=" longpath
+abbrev pub clause : Part
+clause =
+    either (both (word (codes "FOR")) (list_of comma bind))
+    (row (word (codes "LET")) (variable ∷ sign (codes ":=") ∷ longpath ∷ []))
+
+-- operand cmp ( operand | literal )
+abbrev pub cond : Part
+cond = row operand (cmp ∷ either operand literal ∷ [])
+
+-- WHERE cond { AND cond }
+abbrev pub where_part : Part
+where_part = both (word (codes "WHERE")) (list_of (word (codes "AND")) cond)
+
+-- GROUP BY VARIABLE ":=" path
+abbrev pub group : Part
+group = row (word (codes "GROUP")) (word (codes "BY") ∷ variable ∷ sign (codes ":=") ∷ path ∷ [])
+
+-- operand [ ASCENDING | DESCENDING ]
+abbrev pub key : Part
+key =
+    both operand
+    (maybe (one (map (letter_of Word) (codes "ASCENDING" ∷ codes "DESCENDING" ∷ []))))
+
+-- ORDER BY key { "," key }
+abbrev pub order : Part
+order = row (word (codes "ORDER")) (word (codes "BY") ∷ list_of comma key ∷ [])
+
+-- clause { clause } [ where ] [ group ] [ order ] RETURN back
+abbrev pub flwor : Part
+flwor =
+    row clause (many clause ∷ maybe where_part ∷ maybe group ∷ maybe order
+    ∷ word (codes "RETURN") ∷ back ∷ [])
+
+-- match | flwor
+abbrev pub query : Part
+query = either match_query flwor
+
+-- edges and constructors; no rule has another number
+abbrev pub rules : Rules
+rules zero = edges_rest
+rules (suc zero) = cons_rest
+rules (suc (suc n)) = name
+
+-- what may stand behind the edges of an edge, and behind a constructor in another
+abbrev pub follow : ℕ → List ℕ
+follow zero = map (letter_of Sign) (codes "," ∷ codes ")" ∷ [])
+follow (suc zero) =
+    letter_of Quoted [] ∷ map (letter_of Sign) (codes "<" ∷ codes "{" ∷ codes "</" ∷ [])
+follow (suc (suc n)) = []

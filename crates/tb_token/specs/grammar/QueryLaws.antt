@@ -1,0 +1,26 @@
+-- What holds of the grammar of queries.
+use Rattle.std.specs.Prelude.{◌≡◌, ◌↔◌, List, [], ◌∷◌}
+use Rattle.tb_token.specs.grammar.Grammar.{Tok, Part}
+use Rattle.tb_token.specs.grammar.Words.{Tree, Derives, AreWord}
+use Rattle.tb_token.specs.grammar.Decided.{AreDecided, AreGood}
+use Rattle.tb_token.specs.grammar.Patterns.{match_query}
+use Rattle.tb_token.specs.grammar.Paths.{path, written_path}
+use Rattle.tb_token.specs.grammar.Queries.{rules, follow, query}
+
+-- one token of look-ahead decides queries, and those of `MATCH` alone
+pub record IsReadable : Type 0 where
+  pub good : AreGood rules follow
+  pub queries : AreDecided follow (query ∷ [])
+  pub matches : AreDecided follow (match_query ∷ [])
+
+-- tokens are read as one query at most
+abbrev pub AreOneQuery : Type 0
+AreOneQuery =
+    (s : List Tok) (v w : Tree) → Derives rules (query ∷ []) (v ∷ []) s
+    → Derives rules (query ∷ []) (w ∷ []) s → v ≡ w
+
+-- a path is what the grammar's text says, whatever stands behind it
+abbrev pub IsWrittenPath : Type 0
+IsWrittenPath =
+    (ps : List Part) (s : List Tok)
+    → AreWord rules (path ∷ ps) s ↔ AreWord rules (written_path ∷ ps) s

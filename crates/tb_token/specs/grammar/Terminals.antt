@@ -1,0 +1,46 @@
+-- The tokens that the grammar of queries names.
+use Rattle.std.specs.Prelude.{ℕ, List, [], ◌∷◌, map, codes}
+use Rattle.tb_token.specs.grammar.Grammar.{Part, one, both, many}
+use Rattle.tb_token.specs.tokens.Names.{words}
+use Rattle.tb_token.specs.tokens.Letters.{letter_of}
+use Rattle.tb_token.specs.declared.lexer.token.Kind.TheVariants.{Name, Word, Variable, Number, Quoted, TextTest, Sign}
+
+-- the word, in capitals or in small letters
+abbrev pub word : List ℕ → Part
+word text = one (letter_of Word text ∷ [])
+
+-- the sign
+abbrev pub sign : List ℕ → Part
+sign text = one (letter_of Sign text ∷ [])
+
+-- one of the signs
+abbrev pub sign_among : List (List ℕ) → Part
+sign_among texts = one (map (letter_of Sign) texts)
+
+-- a name, or any word in its place
+abbrev pub name : Part
+name = one (letter_of Name [] ∷ map (letter_of Word) words)
+
+-- `$` and a name
+abbrev pub variable : Part
+variable = one (letter_of Variable [] ∷ [])
+
+-- digits
+abbrev pub number : Part
+number = one (letter_of Number [] ∷ [])
+
+-- bytes between quotes
+abbrev pub string : Part
+string = one (letter_of Quoted [] ∷ [])
+
+-- `text()`
+abbrev pub text_test : Part
+text_test = one (letter_of TextTest [] ∷ [])
+
+-- the part once or more, with this between
+abbrev pub list_of : Part → Part → Part
+list_of between p = both p (many (both between p))
+
+-- what stands between the parts of most lists
+abbrev pub comma : Part
+comma = sign (codes ",")

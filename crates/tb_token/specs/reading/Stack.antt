@@ -1,0 +1,38 @@
+-- Parts that are still to come, kept in a stack whose top is last.
+use Rattle.std.specs.Prelude.{◌≡◌, ℕ, Bool, true, false, List, [], ◌∷◌, ◌++◌, Some, None}
+use Rattle.std.specs.Borrow.{Bor}
+use Rattle.tb_token.specs.grammar.Grammar as grammar
+use Rattle.tb_token.specs.grammar.Reading.{after}
+use Rattle.tb_token.specs.reading.View.{part_of}
+use Rattle.tb_token.specs.reading.Machine.{Step, taken, passed, stuck}
+use Rattle.tb_token.specs.declared.reader.part.Part.{Part}
+use Rattle.tb_token.specs.declared.reader.take.Took.{Took}
+use Rattle.tb_token.specs.declared.reader.take.Took.TheVariants as took
+
+-- the parts from the top down
+abbrev pub parts_in : List (Bor Part) → List grammar.Part
+parts_in [] = []
+parts_in (p ∷ above) = parts_in above ++ part_of p.now ∷ []
+
+-- the stack has what a step leaves of a part, over what was there; where the part passes it is as
+-- before, and where it is stuck nothing is said of it
+abbrev pub HasTaken : Step → List (Bor Part) → List (Bor Part) → Took → Type 0
+HasTaken s before now took.Taken =
+    (ps : List grammar.Part) × (s ≡ taken ps) × (parts_in now ≡ ps ++ parts_in before)
+HasTaken s before now took.Passed = (s ≡ passed) × (now ≡ before)
+HasTaken s before now took.Stuck = s ≡ stuck
+
+abbrev pub is_passed : Took → Bool
+is_passed took.Passed = true
+is_passed _ = false
+
+-- what a repetition did, whose part begins with the letter
+abbrev pub of_more : Took → Took
+of_more took.Taken = took.Taken
+of_more took.Passed = took.Stuck
+of_more took.Stuck = took.Stuck
+
+-- the parts have taken the letter, or cannot go on with it
+abbrev pub HaveGone : grammar.Rules → ℕ → List (Bor Part) → List (Bor Part) → Bool → Type 0
+HaveGone rules x before now true = after rules (parts_in before) x ≡ Some (parts_in now)
+HaveGone rules x before now false = after rules (parts_in before) x ≡ None

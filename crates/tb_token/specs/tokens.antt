@@ -1,0 +1,10 @@
+-- Tokens, from bytes to the cut of a text, and what the grammar sees of them; and last what the
+-- program finds.
+pub mod Bytes
+pub mod Names
+pub mod Kinds
+pub mod Cuts
+pub mod Calls
+pub mod Letters
+pub mod Fronts
+pub mod Places

@@ -1,0 +1,12 @@
+//! Tokens: a text cut into them, and what the grammar sees of each.
+
+mod bytes;
+pub mod cut;
+pub mod fault;
+mod front;
+mod letter;
+pub mod letters;
+pub mod lexeme;
+mod names;
+mod signs;
+pub mod token;

@@ -1,0 +1,77 @@
+//! Grammars as data.
+
+ghost use Rattle.std.specs.Prelude.{◌≡◌};
+ghost use Rattle.tb_token.specs.grammar.Reading.{is_filled};
+ghost use Rattle.tb_token.specs.reading.View.{part_of, rules_of};
+ghost use Rattle.tb_token.specs.reading.Machine.{begins_by};
+
+use crate::lexer::letters::has;
+
+/// What a rule is made of.
+#[derive(Clone, Copy)]
+pub enum Part<'g> {
+    /// One token whose letter is among these.
+    One(&'g [u8]),
+    /// The first, and behind it the second.
+    Both(&'g Part<'g>, &'g Part<'g>),
+    /// The first or the second.
+    Either(&'g Part<'g>, &'g Part<'g>),
+    /// The part, or nothing.
+    Maybe(&'g Part<'g>),
+    /// The part any number of times.
+    Many(&'g Part<'g>),
+    /// One token whose letter is among these, and behind it what the rule of this number says.
+    Opened(&'g [u8], usize),
+}
+
+/// A part that words are read by, and what each rule says.
+#[derive(Clone, Copy)]
+pub struct Grammar<'g> {
+    pub start: &'g Part<'g>,
+    /// By their numbers, from 0.
+    pub rules: &'g [&'g Part<'g>],
+    /// What any other rule says.
+    pub other: &'g Part<'g>,
+}
+
+impl<'g> Grammar<'g> {
+    /// What the rule says.
+    pub fn rule(&self, number: usize) -> &'g Part<'g>
+        ensures { part_of result.now ≡ rules_of self.now number }
+    {
+        if number < self.rules.len() {
+            return self.rules[number];
+        }
+        self.other
+    }
+}
+
+/// Whether the part begins with the letter, or what is behind it does, where it may be empty.
+pub fn begins(part: &Part, letter: u8, behind: bool) -> bool
+    ensures { result ≡ begins_by (part_of part.now) letter behind }
+{
+    match part {
+        Part::One(letters) => has(letters, letter),
+        Part::Both(first, second) => begins(first, letter, begins(second, letter, behind)),
+        Part::Either(first, second) => {
+            begins(first, letter, behind) || begins(second, letter, behind)
+        }
+        Part::Maybe(part) => begins(part, letter, behind) || behind,
+        Part::Many(part) => begins(part, letter, behind) || behind,
+        Part::Opened(letters, _) => has(letters, letter),
+    }
+}
+
+/// Whether each word of the part has a token.
+pub fn is_filled(part: &Part) -> bool
+    ensures { result ≡ is_filled (part_of part.now) }
+{
+    match part {
+        Part::One(_) => true,
+        Part::Both(first, second) => is_filled(first) || is_filled(second),
+        Part::Either(first, second) => is_filled(first) && is_filled(second),
+        Part::Maybe(_) => false,
+        Part::Many(_) => false,
+        Part::Opened(_, _) => true,
+    }
+}

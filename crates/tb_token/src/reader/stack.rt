@@ -1,0 +1,40 @@
+//! The parts that are still to come, and one letter.
+
+ghost use Rattle.std.specs.Prelude.{◌≡◌, IfOk};
+ghost use Rattle.tb_token.specs.grammar.Reading.{may_end};
+ghost use Rattle.tb_token.specs.reading.View.{rules_of};
+ghost use Rattle.tb_token.specs.reading.Stack.{parts_in, HaveGone};
+
+use crate::reader::part::{Grammar, Part, is_filled};
+use crate::reader::take::{Took, take};
+use std::alloc::AllocError;
+
+/// Whether the parts can go on with the letter. Then they have taken it.
+pub fn goes_on<'g>(
+    grammar: &Grammar<'g>,
+    letter: u8,
+    stack: &mut Vec<&'g Part<'g>>,
+) -> Result<bool, AllocError>
+    ensures { IfOk result (HaveGone (rules_of grammar.now) letter stack.old.items stack.new.items) }
+{
+    'parts: while let Some(part) = stack.pop() {
+        match take(grammar, part, letter, stack)? {
+            Took::Taken => return Ok(true),
+            Took::Passed => {}
+            Took::Stuck => return Ok(false),
+        }
+    }
+    Ok(false)
+}
+
+/// Whether no part is left that must have a token. The stack is emptied for that.
+pub fn may_end<'g>(stack: &mut Vec<&'g Part<'g>>) -> bool
+    ensures { result ≡ may_end (parts_in stack.old.items) }
+{
+    'parts: while let Some(part) = stack.pop() {
+        if is_filled(part) {
+            return false;
+        }
+    }
+    true
+}
