@@ -1,4 +1,5 @@
 pub mod Views
+pub mod BeginLaws
 pub mod StepLaws
 pub mod TakeLaws
 pub mod StackLaws

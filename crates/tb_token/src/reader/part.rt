@@ -52,12 +52,14 @@ pub fn begins(part: &Part, letter: u8, behind: bool) -> bool
 {
     match part {
         Part::One(letters) => has(letters, letter),
-        Part::Both(first, second) => begins(first, letter, begins(second, letter, behind)),
+        Part::Both(first, second) => {
+            begins(first, letter, false) || (!is_filled(first) && begins(second, letter, behind))
+        }
         Part::Either(first, second) => {
             begins(first, letter, behind) || begins(second, letter, behind)
         }
-        Part::Maybe(part) => begins(part, letter, behind) || behind,
-        Part::Many(part) => begins(part, letter, behind) || behind,
+        Part::Maybe(part) => behind || begins(part, letter, false),
+        Part::Many(part) => behind || begins(part, letter, false),
         Part::Opened(letters, _) => has(letters, letter),
     }
 }

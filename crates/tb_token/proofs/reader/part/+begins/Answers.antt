@@ -1,0 +1,25 @@
+-- Of two parts in turn the second matters where the first may be empty.
+use Rattle.std.proofs.Common.{◌≡◌, ap, sym, ◌∙◌, false, not}
+use Rattle.tb_token.specs.reading.View.{part_of}
+use Rattle.tb_token.specs.reading.Machine.{begins_by}
+use Rattle.tb_token.proofs.reading.Views.{part_of-Both}
+use Rattle.tb_token.proofs.reading.BeginLaws.{begins-first, begins-second, begins-neither}
+use Rattle.tb_token.proofs.reader.part.+begins.Goals as goal
+
+pub returns-then-begins : goal.returns-then-begins
+returns-then-begins t c =
+    let whole = ap part_of c.in-Both.is ∙ part_of-Both c.in-Both.first c.in-Both.second in
+    let past = begins-first (part_of c.in-Both.first.now) (part_of c.in-Both.second.now) c.args.letter c.args.behind (sym c.begins.ensures ∙ c.if-begins.true) in
+    c.if-begins.true ∙ sym past ∙ ap (λ p. begins_by p c.args.letter c.args.behind) (sym whole)
+
+pub returns-then-not-is_filled : goal.returns-then-not-is_filled
+returns-then-not-is_filled t c =
+    let whole = ap part_of c.in-Both.is ∙ part_of-Both c.in-Both.first c.in-Both.second in
+    let past = begins-second (part_of c.in-Both.first.now) (part_of c.in-Both.second.now) c.args.letter c.args.behind (sym c.begins.ensures ∙ c.if-begins.false) (sym c.is_filled.ensures ∙ c.if-not-is_filled.true) in
+    c.begins-then-not-is_filled.ensures ∙ sym past ∙ ap (λ p. begins_by p c.args.letter c.args.behind) (sym whole)
+
+pub returns-else-not-is_filled : goal.returns-else-not-is_filled
+returns-else-not-is_filled t c =
+    let whole = ap part_of c.in-Both.is ∙ part_of-Both c.in-Both.first c.in-Both.second in
+    let past = begins-neither (part_of c.in-Both.first.now) (part_of c.in-Both.second.now) c.args.letter c.args.behind (sym c.begins.ensures ∙ c.if-begins.false) (sym c.is_filled.ensures ∙ c.if-not-is_filled.false) in
+    ap not c.if-not-is_filled.false ∙ sym past ∙ ap (λ p. begins_by p c.args.letter c.args.behind) (sym whole)
