@@ -9,7 +9,8 @@ use Rattle.tb_number.specs.Keys.{SortedAs, sorted_as, value_sorted_as, sorted_cm
 use Rattle.tb_number.proofs.ValueLaws.{int_cmp-Equal, bytes_cmp-Equal}
 use Rattle.tb_number.proofs.ReadingLaws.{stands-integer_of, integer_of-stands}
 
-sorted_cmp-total : IsTotalOrder sorted_cmp
+-- of two keys as they are sorted the one is less, or the other, or they are tied
+pub sorted_cmp-total : IsTotalOrder sorted_cmp
 sorted_cmp-total =
     then_total (on_total (λ k. k.kind) nat_cmp_total) (then_total (on_total (λ k. k.number) int_cmp_total) (on_total (λ k. k.bytes) nat_list_cmp_total))
 
@@ -22,7 +23,7 @@ key_cmp-sorted_as a b same = ap (λ s. sorted_cmp s (sorted_as b)) same ∙ tied
 
 -- The three parts of a key as it is sorted, where two keys are tied.
 
-then-Equal : (o p : Ordering) → ordering_then o p ≡ Equal → (o ≡ Equal) × (p ≡ Equal)
+pub then-Equal : (o p : Ordering) → ordering_then o p ≡ Equal → (o ≡ Equal) × (p ≡ Equal)
 then-Equal Less p e = absurd (let d : ◌≡◌ {A = Ordering} Less Equal = e in cc)
 then-Equal Equal p e = (refl, e)
 then-Equal Greater p e = absurd (let d : ◌≡◌ {A = Ordering} Greater Equal = e in cc)

@@ -6,4 +6,5 @@ pub mod SignLaws
 pub mod RangeLaws
 pub mod ValueLaws
 pub mod KeyLaws
+pub mod PartsLaws
 pub mod WorkedRows

@@ -1,11 +1,12 @@
 -- An integer text has one reading, which is the number that `integer_of` gives.
-use Rattle.std.proofs.Common.{◌≡◌, ℕ, ◌<◌, Bool, true, false, cond, ◌==◌, ◌||◌, ◌&&◌, not, List, [], ◌∷◌, ◌++◌, length, take, drop, Option, Some, None, refl, sym, ap, ◌∙◌, arith, ℤ, take-append-drop, eqb-true, ltb-true}
+use Rattle.std.proofs.Common.{◌≡◌, ℕ, ◌<◌, Bool, true, false, ◌==◌, ◌||◌, ◌&&◌, not, List, [], ◌∷◌, ◌++◌, length, take, drop, Option, Some, None, refl, sym, ap, ◌∙◌, arith, ℤ, take-append-drop, eqb-true, ltb-true}
 use Rattle.std.proofs.Math.Seq.{take-append_seam, drop-append_seam}
 use Rattle.std.proofs.lemmas.List.Sums.{prefix_len-le-length}
 use Rattle.std.specs.Prelude.{nat_lt, option_map}
 use Rattle.std.specs.List.{prefix_len, list_all}
 use Rattle.std.proofs.lemmas.Bool.{and_parts}
 use Rattle.std.proofs.lemmas.Bool.Decides.{nat_tests}
+use Rattle.std.proofs.lemmas.Option.{cond_some}
 use Rattle.std.proofs.lemmas.List.{length-take-le}
 use Rattle.tb_number.specs.IntText.{is_blank, is_digit, number_of, signed, Sign, none, plus, minus, sign_text, is_minus, StandsFor, IsIntText, Reads}
 use Rattle.tb_number.specs.Reading.{integer_of, without_blanks, without_sign, begins_with_minus, digits_front}
@@ -53,13 +54,14 @@ module _ (d : ℕ) (rest : List ℕ) (digit : is_digit d ≡ true) where
   begins_with_minus-whole plus = refl
   begins_with_minus-whole minus = refl
 
-abbrev with_sign : Bool → Option (List ℕ) → Option ℤ
+-- the number of digits that were found
+abbrev pub with_sign : Bool → Option (List ℕ) → Option ℤ
 with_sign sign digits = option_map (λ ds. signed sign (number_of ds)) digits
 
-abbrev of_text : List ℕ → Option ℤ
+abbrev pub of_text : List ℕ → Option ℤ
 of_text text = with_sign (begins_with_minus text) (digits_front (without_sign text))
 
-integer_of-text : (bytes : List ℕ) → integer_of bytes ≡ of_text (without_blanks bytes)
+pub integer_of-text : (bytes : List ℕ) → integer_of bytes ≡ of_text (without_blanks bytes)
 unfolding integer_of
 integer_of-text bytes = refl
 
@@ -83,25 +85,21 @@ stands-integer_of bytes number s =
 
 -- What `integer_of` gives, the bytes stand for.
 
-kept : {A : Type 0} (b : Bool) (x y : A) → cond b (Some x) None ≡ Some y → (b ≡ true) × (x ≡ y)
-kept true x y e = (refl, let d : ◌≡◌ {A = Option _} (Some x) (Some y) = e in cc)
-kept false x y e = absurd (let d : ◌≡◌ {A = Option _} None (Some y) = e in cc)
-
 mapped : {A B : Type 0} (f : A → B) (o : Option A) (y : B) → option_map f o ≡ Some y → (x : A) × (o ≡ Some x) × (f x ≡ y)
 mapped f None y e = absurd (let d : ◌≡◌ {A = Option _} None (Some y) = e in cc)
 mapped f (Some x) y e = (x, refl, let d : ◌≡◌ {A = Option _} (Some (f x)) (Some y) = e in cc)
 
-record FrontParts (bytes digits : List ℕ) : Type 0 where
-  behind : List ℕ
-  whole : bytes ≡ digits ++ behind
-  some_digit : 0 < length digits
-  all_digits : list_all is_digit digits ≡ true
-  blank_behind : list_all is_blank behind ≡ true
+pub record FrontParts (bytes digits : List ℕ) : Type 0 where
+  pub behind : List ℕ
+  pub whole : bytes ≡ digits ++ behind
+  pub some_digit : 0 < length digits
+  pub all_digits : list_all is_digit digits ≡ true
+  pub blank_behind : list_all is_blank behind ≡ true
 
-front-parts : (bytes digits : List ℕ) → digits_front bytes ≡ Some digits → FrontParts bytes digits
+pub front-parts : (bytes digits : List ℕ) → digits_front bytes ≡ Some digits → FrontParts bytes digits
 front-parts bytes digits e =
     let len = prefix_len is_digit bytes in
-    let found = kept (nat_lt 0 len && list_all is_blank (drop len bytes)) (take len bytes) digits e in
+    let found = cond_some (nat_lt 0 len && list_all is_blank (drop len bytes)) (take len bytes) digits e in
     let parts = and_parts (nat_lt 0 len) (list_all is_blank (drop len bytes)) found.0 in
     let same : take len bytes ≡ digits = found.1 in
     let within = prefix_len-le-length is_digit bytes in

@@ -6,6 +6,7 @@ use Rattle.tb_number.specs.Canonical.{canonical_text}
 use Rattle.tb_number.specs.Range.{within_range, running_sum}
 use Rattle.tb_number.specs.Values.{value_cmp}
 use Rattle.tb_number.specs.Keys.{key_cmp}
+use Rattle.tb_number.specs.KeyParts.{parts_of}
 
 -- three texts of the number 7
 pub integer-zeros : integer_of (codes "007") ≡ Some (pos 7)
@@ -137,3 +138,22 @@ keys-numbers = refl
 pub keys-bytes : key_cmp (Some (codes "a")) (Some (codes "B")) ≡ Greater
 unfolding integer_of
 keys-bytes = refl
+
+-- the parts of keys: no value, numbers on both sides of 0, zero, values that are no number
+pub parts-none : parts_of None ≡ record { kind = 0; bytes = [] }
+parts-none = refl
+
+pub parts-number : parts_of (Some (codes "\t+0070 ")) ≡ record { kind = 1; bytes = codes "70" }
+parts-number = refl
+
+pub parts-below : parts_of (Some (codes "-07")) ≡ record { kind = 2; bytes = codes "7" }
+parts-below = refl
+
+pub parts-zero : parts_of (Some (codes "-00")) ≡ record { kind = 1; bytes = [] }
+parts-zero = refl
+
+pub parts-bytes : parts_of (Some (codes " 7a")) ≡ record { kind = 3; bytes = codes " 7a" }
+parts-bytes = refl
+
+pub parts-empty : parts_of (Some []) ≡ record { kind = 3; bytes = [] }
+parts-empty = refl

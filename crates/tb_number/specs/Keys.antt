@@ -1,6 +1,6 @@
 -- The order of keys. A key is a value, or none.
-use Rattle.std.specs.Prelude.{ℕ, List, [], ℤ, pos, Option, Some, None, ⊤}
-use Rattle.std.specs.Ordering.{nat_cmp, int_cmp, on, then_cmp}
+use Rattle.std.specs.Prelude.{ℕ, Bool, List, [], ℤ, pos, Option, Some, None, ⊤}
+use Rattle.std.specs.Ordering.{nat_cmp, int_cmp, on, then_cmp, is_eq}
 use Rattle.std.specs.declared.cmp.Ordering.{Ordering}
 use Rattle.tb_number.specs.Reading.{integer_of}
 use Rattle.tb_number.specs.Values.{AreEqual, bytes_cmp}
@@ -31,7 +31,11 @@ sorted_cmp = then_cmp (on (λ k. k.kind) nat_cmp)
 abbrev pub key_cmp : Option (List ℕ) → Option (List ℕ) → Ordering
 key_cmp = on sorted_as sorted_cmp
 
--- neither has a value, or their values are equal
+-- both have no value, or their values are equal
+abbrev pub is_same_key : Option (List ℕ) → Option (List ℕ) → Bool
+is_same_key a b = is_eq (key_cmp a b)
+
+-- the same as a relation
 abbrev pub AreEqualKeys : Option (List ℕ) → Option (List ℕ) → Type 0
 AreEqualKeys None None = ⊤
 AreEqualKeys None (Some b) = ⊥

@@ -7,3 +7,4 @@ pub mod Comparison
 pub mod Values
 pub mod Keys
 pub mod Reduced
+pub mod KeyParts

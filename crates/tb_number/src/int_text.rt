@@ -5,13 +5,12 @@ ghost use Rattle.std.specs.Ordering.{int_cmp};
 ghost use Rattle.std.specs.List.{list_all};
 ghost use Rattle.tb_number.specs.IntText.{is_digit, number_of, signed, Reads};
 ghost use Rattle.tb_number.specs.Reading.{integer_of};
-ghost use Rattle.tb_number.specs.Reduced.{keeps_minus};
 ghost use Rattle.tb_number.specs.Canonical.{canonical_text};
 ghost use Rattle.tb_number.specs.Range.{within_range};
 
 use crate::digits::{compare_digits, small_number};
 use crate::spelling::{
-    begins_with_minus, digits_front, without_blanks, without_sign, without_zeros,
+    begins_with_minus, digits_front, keeps_minus, without_blanks, without_sign, without_zeros,
 };
 use std::alloc::{AllocError, Global};
 use std::cmp::Ordering;
@@ -97,13 +96,6 @@ impl<'a> IntText<'a> {
             digits,
         }
     }
-}
-
-/// A minus is kept where there is a digit.
-fn keeps_minus(minus: bool, digits: &[u8]) -> bool
-    ensures { result ≡ keeps_minus minus digits.now }
-{
-    minus && !digits.is_empty()
 }
 
 /// Appends `-` and the digits.

@@ -8,6 +8,7 @@
 mod agg;
 mod digits;
 mod int_text;
+mod key;
 mod op;
 mod sort_key;
 mod spelling;
@@ -15,6 +16,7 @@ mod sum;
 
 pub use agg::AggKind;
 pub use int_text::IntText;
+pub use key::Key;
 pub use op::CmpOp;
 pub use sort_key::SortKey;
 pub use sum::{Past, RunningSum};

@@ -6,7 +6,7 @@ ghost use Rattle.std.specs.Option.{option_map};
 ghost use Rattle.tb_number.specs.IntText.{is_blank, is_digit};
 ghost use Rattle.tb_number.specs.Reading.{without_blanks, begins_with_minus, without_sign};
 ghost use Rattle.tb_number.specs.Reading.{digits_front};
-ghost use Rattle.tb_number.specs.Reduced.{without_zeros};
+ghost use Rattle.tb_number.specs.Reduced.{without_zeros, keeps_minus};
 
 /// The bytes from the first one on that is no blank.
 pub fn without_blanks(bytes: &[u8]) -> &[u8]
@@ -62,6 +62,13 @@ pub fn without_zeros(digits: &[u8]) -> &[u8]
         }
     }
     &digits[digits.len()..]
+}
+
+/// A minus is kept where there is a digit, so zero has none.
+pub fn keeps_minus(minus: bool, digits: &[u8]) -> bool
+    ensures { result ≡ keeps_minus minus digits.now }
+{
+    minus && !digits.is_empty()
 }
 
 /// How many digits stand at the front.

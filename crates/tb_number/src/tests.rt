@@ -1,9 +1,10 @@
 //! What no clause says: that the clauses mean what they should, by numbers from outside, and that
-//! texts are written with ample memory.
+//! texts are written and keys are hashed with ample memory.
 
-use crate::{CmpOp, IntText, RunningSum};
+use crate::{CmpOp, IntText, Key, RunningSum};
 use std::alloc::{AllocError, Global};
 use std::cmp::Ordering;
+use std::collections::HashSet;
 use std::test::Fail;
 
 // A 1 with 59 zeros.
@@ -100,6 +101,43 @@ fn texts_are_written_without_what_does_not_count(rt: HostRuntime) -> Result<(), 
         texts.as_slice(),
         b"7;0;-120;;170141183460469231731687303715884105727;".as_slice()
     );
+    Ok(())
+}
+
+// How many of the values are another than all before them.
+fn apart(alloc: Global, values: &[Option<&[u8]>]) -> Result<usize, AllocError> {
+    let mut seen = HashSet::new(alloc);
+    for value in values {
+        seen.insert(Key::of(*value))?;
+    }
+    Ok(seen.len())
+}
+
+#[test]
+fn equal_values_have_one_key(rt: HostRuntime) -> Result<(), Fail> {
+    let alone: [&[Option<&[u8]>]; 6] = [
+        &[Some(b"7"), Some(b"007"), Some(b" +7\n")],
+        &[Some(b"0"), Some(b"-0"), Some(b"+000")],
+        &[Some(b"-12"), Some(b" -012")],
+        &[Some(b"a"), Some(b"a")],
+        &[Some(b""), Some(b"")],
+        &[None, None],
+    ];
+    for values in alone {
+        assert_eq!(rt; apart(rt.alloc(), values)?, 1);
+    }
+    let all: [Option<&[u8]>; 9] = [
+        None,
+        Some(b""),
+        Some(b"0"),
+        Some(b"7"),
+        Some(b"-7"),
+        Some(b"70"),
+        Some(b"a"),
+        Some(b"A"),
+        Some(b"1 2"),
+    ];
+    assert_eq!(rt; apart(rt.alloc(), &all)?, 9);
     Ok(())
 }
 

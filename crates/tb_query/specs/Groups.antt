@@ -1,17 +1,12 @@
 -- Groups of tuples, and the nodes that a path has over a group.
 use Rattle.std.specs.Prelude.{ℕ, ◌==◌, Bool, List, [], ◌∷◌, Option, Some, None, map, flat_map}
-use Rattle.std.specs.Ordering.{is_eq}
 use Rattle.tb_tree.specs.Numbers.{Numbered}
-use Rattle.tb_number.specs.Keys.{key_cmp}
+use Rattle.tb_number.specs.Keys.{is_same_key}
 use Rattle.tb_query.specs.Lists.{each_once, grouped}
 use Rattle.tb_query.specs.Tuples.{Docs, Tuple, Lets, nodes_in, standing}
 use Rattle.tb_query.specs.Operands.{values, first_of}
 use Rattle.tb_query.specs.declared.path.Path.{Path}
 use Rattle.tb_query.specs.declared.clause.GroupBy.{GroupBy}
-
--- both have no value, or their values are equal
-abbrev pub is_same_key : Option (List ℕ) → Option (List ℕ) → Bool
-is_same_key a b = is_eq (key_cmp a b)
 
 -- the key of a tuple, where each tuple has these nodes: the value of the first one, or no value
 abbrev pub key_of : (Tuple → List Numbered) → Tuple → Option (List ℕ)

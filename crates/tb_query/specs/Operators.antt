@@ -4,6 +4,7 @@ use Rattle.std.specs.Prelude.{ℕ, Bool, List, [], ◌∷◌, ◌++◌, pos, Opt
 use Rattle.tb_tree.specs.declared.against.Against.{Against}
 use Rattle.tb_tree.specs.declared.against.Against.TheVariants.{Column, Number, Text}
 use Rattle.tb_number.specs.Canonical.{canonical_text}
+use Rattle.tb_number.specs.Keys.{is_same_key}
 use Rattle.tb_number.specs.declared.op.CmpOp.{CmpOp}
 use Rattle.tb_number.specs.declared.op.CmpOp.TheVariants.{Eq}
 use Rattle.tb_number.specs.declared.agg.AggKind.{AggKind}
@@ -13,7 +14,6 @@ use Rattle.tb_pattern.specs.declared.cond.Literal.TheVariants as literals
 use Rattle.tb_query.specs.Lists.{each_once, grouped, sorted, all_given}
 use Rattle.tb_query.specs.Operands.{first_of, aggregate}
 use Rattle.tb_query.specs.Comparisons.{some_stand, some_stand_to}
-use Rattle.tb_query.specs.Groups.{is_same_key}
 use Rattle.tb_query.specs.Order.{SortValue, sort_values_cmp}
 use Rattle.tb_query.specs.Rows.{NodeIn, Cell, nodes, value, Row, cell_at, nodes_of, values_of, is_same, is_same_row}
 

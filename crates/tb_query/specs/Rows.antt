@@ -3,7 +3,7 @@ use Rattle.std.specs.Prelude.{ℕ, zero, suc, ◌==◌, Bool, true, false, ◌&&
 use Rattle.std.specs.Option.{option_to_list}
 use Rattle.tb_tree.specs.Numbers.{Numbered}
 use Rattle.tb_tree.specs.Value.{value_of}
-use Rattle.tb_query.specs.Groups.{is_same_key}
+use Rattle.tb_number.specs.Keys.{is_same_key}
 
 -- a node and the number of its document, from 0 in the order of the list of documents
 pub record NodeIn : Type 0 where
