@@ -5,7 +5,7 @@ use Rattle.std.specs.Option.{option_map}
 use Rattle.std.proofs.lemmas.Bool.{and_parts, not-true, leb-true, leb-false}
 use Rattle.std.proofs.lemmas.List.{drop_more, take_all}
 use Rattle.memchr.specs.Find.{Nowhere, NoneBefore, Passes, is_byte}
-use Rattle.tb_tree.proofs.Fronts.{is_other, others-front}
+use Rattle.tb_tree.proofs.lists.Prefixes.{is_other, others-front}
 use Rattle.tb_esis.specs.Escapes.{Escape, number_from, escape_of, unescaped, unescaped_behind}
 
 -- what the bytes give behind those that an escape has taken

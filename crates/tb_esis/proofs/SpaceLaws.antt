@@ -4,7 +4,7 @@ use Rattle.std.specs.List.{list_all}
 use Rattle.std.proofs.lemmas.Bool.{and_parts, not-true}
 use Rattle.std.proofs.lemmas.List.{drop_more, take_all}
 use Rattle.memchr.specs.Find.{Nowhere, NoneBefore, Passes, is_byte}
-use Rattle.tb_tree.proofs.Fronts.{is_other, others-front}
+use Rattle.tb_tree.proofs.lists.Prefixes.{is_other, others-front}
 use Rattle.tb_esis.specs.Lines.{before_space, behind_space}
 
 -- the part before the space, and the part behind it

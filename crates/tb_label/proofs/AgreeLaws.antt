@@ -6,7 +6,7 @@ use Rattle.tb_tree.specs.Plain.{Plain, one}
 use Rattle.tb_tree.specs.Numbers.{count}
 use Rattle.tb_span.specs.Span.{Encloses, IsParent, IsBefore}
 use Rattle.tb_tree.specs.Places.{IsAncestor}
-use Rattle.tb_tree.proofs.Alls.{all-both, all-weaker}
+use Rattle.tb_tree.proofs.lists.Alls.{all-both, all-weaker}
 use Rattle.tb_label.specs.Rows.{Row, rows_of, document_label, IsLeftOf, IsParentOf, Agree, Follows, inside, beside}
 use Rattle.tb_label.proofs.RowLaws.{IsUnder, AllFollow, all_under, all_follow}
 

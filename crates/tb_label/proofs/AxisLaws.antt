@@ -7,7 +7,7 @@ use Rattle.tb_span.specs.Lists.{is_related}
 use Rattle.tb_span.specs.declared.item.Axis.TheVariants.{Descendant}
 use Rattle.tb_tree.specs.Plain.{Plain, elem, attr, text, Plains, no_kids, kid, kids_of, one}
 use Rattle.tb_tree.specs.Numbers.{counts, all_numbered}
-use Rattle.tb_tree.proofs.Alls.{all-append, all-both, all-weaker}
+use Rattle.tb_tree.proofs.lists.Alls.{all-append, all-both, all-weaker}
 use Rattle.tb_label.specs.Rows.{Row, leaf_row, elem_row, rows, rows_of, numbered_of}
 use Rattle.tb_label.proofs.RowLaws.{IsUnder, all_under}
 use Rattle.tb_label.proofs.PlacedLaws.{rows-numbered}

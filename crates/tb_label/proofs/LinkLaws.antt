@@ -5,7 +5,7 @@ use Rattle.std.proofs.lemmas.List.Elements.{Contains-append_left, Contains-appen
 use Rattle.tb_tree.specs.Plain.{Plain, elem, attr, text, Plains, no_kids, kid, kids_listed}
 use Rattle.tb_tree.specs.Numbers.{counts}
 use Rattle.tb_label.specs.Rows.{Row, leaf_row, elem_row, rows}
-use Rattle.tb_tree.proofs.Alls.{all-append, all-weaker}
+use Rattle.tb_tree.proofs.lists.Alls.{all-append, all-weaker}
 
 -- the m-th of nodes next to each other, from 0
 abbrev pub IsKid : Plains → ℕ → Plain → Type 0

@@ -14,7 +14,7 @@ use Rattle.tb_tree.specs.Meets.{meets}
 use Rattle.tb_tree.specs.declared.node_test.Test.{Test}
 use Rattle.tb_label.specs.Rows.{Row, rows_of, item_of, listed, document_label, Follows, inside, beside}
 use Rattle.tb_label.specs.Stores.{document_item_of}
-use Rattle.tb_tree.proofs.Alls.{all-both, all-weaker}
+use Rattle.tb_tree.proofs.lists.Alls.{all-both, all-weaker}
 use Rattle.tb_label.proofs.RowLaws.{IsUnder, AllFollow, all_under, all_follow}
 use Rattle.tb_label.proofs.LinkLaws.{length-rows}
 

@@ -3,7 +3,7 @@ use Rattle.std.proofs.Common.{◌≡◌, ℕ, ◌+◌, ◌*◌, ◌<◌, ◌≤�
 use Rattle.std.specs.List.{AllByRecursion}
 use Rattle.tb_tree.specs.Plain.{Plain, elem, attr, text, Plains, no_kids, kid}
 use Rattle.tb_tree.specs.Numbers.{counts}
-use Rattle.tb_tree.proofs.Alls.{all-append, all-weaker}
+use Rattle.tb_tree.proofs.lists.Alls.{all-append, all-weaker}
 use Rattle.tb_label.specs.Rows.{Row, leaf_row, elem_row, rows, Follows, inside, beside}
 
 -- a row below this place, from its k-th kid on, whose label lies in the stretch of the counter

@@ -1,7 +1,7 @@
 -- The body of a load is no longer than the script.
 use Rattle.std.proofs.Common.{◌≡◌, ℕ, ◌+◌, ◌≤◌, Bool, true, false, cond, List, [], ◌∷◌, ◌++◌, map, length, flat_map, refl, ap, arith, length-append}
 use Rattle.std.specs.List.{AllByRecursion}
-use Rattle.tb_tree.proofs.Alls.{all-append}
+use Rattle.tb_tree.proofs.lists.Alls.{all-append}
 use Rattle.tb_script.specs.Lines.{whole_lines, text_of}
 use Rattle.tb_script.specs.Forms.{is_dot, form_of, name_in}
 use Rattle.tb_script.specs.Entries.{Within, no_body, load_body, query_text, alone, opened, ended_by, behind, left_open, entries, entries_of}
@@ -15,6 +15,7 @@ use Rattle.tb_script.specs.declared.entry.Said.{Said}
 use Rattle.tb_script.specs.declared.entry.Said.TheVariants.{Unknown, Session, Load, Query, Tell, Hear}
 use Rattle.tb_script.specs.declared.entry.Entry.{Entry}
 use Rattle.tb_script.proofs.LineLaws.{joined-whole}
+use Rattle.tb_script.proofs.EndLaws.{plain, plains}
 
 -- the body of what a line says has at most so many bytes
 abbrev pub SaidFits : Said → Type 0
@@ -80,13 +81,6 @@ entries-fit within n (line ∷ lines) few =
 
 pub script-fits : (bytes : List ℕ) → length bytes ≤ 67108864 → AllByRecursion Fits (entries_of bytes)
 script-fits bytes few = entries-fit no_body 1 (whole_lines bytes) (omega (arith, few, ap length (joined-whole bytes)))
-
--- the commands of such lines
-abbrev plain : List Turn → List Command
-plain ts = map (λ t. t.command) ts
-
-abbrev plains : List (List Turn) → List (List Command)
-plains ss = map (map (λ t. t.command)) ss
 
 said-fits : (names : List (List ℕ)) (n : ℕ) (said : Said) → SaidFits said → AllByRecursion HasBodyThatFits (plain (turns_of names n said))
 said-fits names n Unknown f = tt

@@ -5,13 +5,7 @@ use Rattle.tb_script.specs.Lines.{whole_lines, text_of}
 use Rattle.tb_script.specs.Forms.{is_dot}
 use Rattle.tb_script.specs.Entries.{load_body, entries}
 use Rattle.tb_script.specs.Cuts.{Cut, CutsFirst}
-
--- what stands before the rest
-pub front_is : (bytes front rest : List ℕ) → bytes ≡ front ++ rest → take (length bytes - length rest) bytes ≡ front
-front_is bytes front rest e =
-    let long = ap length e ∙ length-append front rest in
-    let here : length bytes - length rest ≡ length front = omega (arith, long) in
-    rw (here, e) (take-append_seam front rest)
+use Rattle.tb_tree.proofs.lists.Parts.{prefix_is}
 
 pub front_more : (bytes front rest : List ℕ) (cut : Cut) → bytes ≡ front ++ rest → CutsFirst rest cut → bytes ≡ (front ++ cut.whole) ++ cut.rest
 front_more bytes front rest cut e c = e ∙ ap (λ r. front ++ r) c.joined ∙ sym (append_assoc front cut.whole cut.rest)

@@ -6,10 +6,11 @@ use Rattle.tb_script.specs.Runnable.{AreThrough}
 use Rattle.tb_script.specs.declared.command.Command.{Command}
 use Rattle.tb_script.specs.declared.turn.Turn.{Turn}
 
-abbrev plain : List Turn → List Command
+-- the commands of turns, and of the turns of sessions
+abbrev pub plain : List Turn → List Command
 plain ts = map (λ t. t.command) ts
 
-abbrev plains : List (List Turn) → List (List Command)
+abbrev pub plains : List (List Turn) → List (List Command)
 plains ss = map (map (λ t. t.command)) ss
 
 first_same : (c d : Command) (cs ds : List Command) → c ∷ cs ≡ d ∷ ds → (c ≡ d) × (cs ≡ ds)

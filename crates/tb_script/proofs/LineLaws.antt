@@ -7,6 +7,8 @@ use Rattle.std.proofs.lemmas.List.{length-map, length-drop}
 use Rattle.tb_tree.specs.TextLines.{lines_in, before_first, begins_with_end, CutsLine}
 use Rattle.tb_script.specs.Cuts.{CutsFirst}
 use Rattle.tb_script.specs.Lines.{whole_lines, text_of}
+use Rattle.tb_tree.proofs.lists.Parts.{first-same}
+use Rattle.tb_tree.proofs.lists.Bools.{and-second}
 
 -- the first line begins with a line's end
 abbrev starts : List (List ℕ) → Bool
@@ -30,15 +32,11 @@ text-before_first : (b : ℕ) (lines : List (List ℕ)) → (b == 10) ≡ false 
 text-before_first b [] e f = rw (e, f) refl
 text-before_first b (line ∷ lines) e f = rw (e, f) refl
 
-and-right : (a b : Bool) → (a && b) ≡ true → b ≡ true
-and-right true b e = e
-and-right false b e = absurd (false≢true e)
-
 text-return : (b : ℕ) (bs : List ℕ) → (b == 10) ≡ false → (b == 13 && begins_with_end bs) ≡ true
     → map text_of (whole_lines bs) ≡ lines_in bs → map text_of (before_first b (whole_lines bs)) ≡ lines_in bs
-text-return b [] e f ih = absurd (false≢true (and-right (b == 13) false f))
+text-return b [] e f ih = absurd (false≢true (and-second (b == 13) false f))
 text-return b (c ∷ cs) e f ih =
-    let g : (c == 10) ≡ true = and-right (b == 13) (c == 10) f in
+    let g : (c == 10) ≡ true = and-second (b == 13) (c == 10) f in
     let h : (b == 13 && true) ≡ true = rw g at f in
     rw (g, e, h) (rw g at ih)
 
@@ -132,9 +130,6 @@ pub record CutsWhole (bytes line rest : List ℕ) (taken : ℕ) : Type 0 where
   pub lines : whole_lines bytes ≡ take taken bytes ∷ whole_lines rest
   pub line_is : line ≡ text_of (take taken bytes)
 
-same_first : (a b : List ℕ) (xs ys : List (List ℕ)) → a ∷ xs ≡ b ∷ ys → a ≡ b
-same_first a b xs ys e = cc
-
 ends_at : (n : ℕ) (bytes : List ℕ) → (slice_index bytes (suc n - 1) ≡ 10) ⊎ (suc n ≡ length bytes) → EndsAt n bytes
 ends_at n bytes (inl e) = let one : suc n - 1 ≡ n = omega arith in inl (rw one at e)
 ends_at n bytes (inr e) = inr (omega (arith, e))
@@ -158,7 +153,7 @@ cuts-whole bytes line rest c = by c.taken c.some c.within c.ended c.rest_is
           within = within;
           rest_is = is;
           lines = first ∙ ap (λ r. take (suc n) bytes ∷ whole_lines r) (sym is);
-          line_is = same_first line (text_of (take (suc n) bytes)) _ _ text;
+          line_is = first-same line (text_of (take (suc n) bytes)) _ _ text;
         }
 
 -- The cut of the next line, with what stands behind it.

@@ -13,6 +13,7 @@ use Rattle.std.proofs.lemmas.Map.Text.{is_eq-slice_cmp}
 use Rattle.tb_script.specs.Faults.{place_of}
 use Rattle.tb_script.specs.Tallies.{Tells, get_at}
 use Rattle.tb_script.specs.declared.marks.Marks.{Marks}
+use Rattle.tb_tree.proofs.lists.Options.{option_map-none}
 
 apart : (bs cs ks : List ℕ) → bytes_eq bs cs ≡ false → is_eq (slice_cmp nat_cmp bs ks) ≡ true → is_eq (slice_cmp nat_cmp cs ks) ≡ false
 apart bs cs ks n y =
@@ -38,10 +39,6 @@ updated m n key w u q = by (bytes_eq key q) refl
     by : (t : Bool) → bytes_eq key q ≡ t → get_by (by_key q) n ≡ cond t w (get_by (by_key q) m)
     by true e = subst (λ l. get_by (by_key l) n ≡ w) ((bytes_decides key q).0 e) u.1
     by false e = other_entries _ _ _ _ u.3 _ (λ x y. (eq_by_cmp_equiv nat_list_cmp_total).congr q x.items y.items) (λ k. apart key q k.items e)
-
-option_map-none : {A B : Type 0} (f : A → B) (o : Option A) → option_map f o ≡ None → o ≡ None
-option_map-none f None e = refl
-option_map-none f (Some x) e = absurd (let d : ◌≡◌ {A = Option _} (Some (f x)) None = e in cc)
 
 -- a name that stands nowhere in a list doesn't stand first, and nowhere in the rest
 pub nowhere : (name first : List ℕ) (rest : List (List ℕ)) → place_of name (first ∷ rest) ≡ None → (bytes_eq name first ≡ false) × (place_of name rest ≡ None)

@@ -6,20 +6,18 @@ use Rattle.std.proofs.lemmas.Nat.{and_le_l}
 use Rattle.std.proofs.lemmas.Nat.Bits.{bit_at_and, bit_at_or, bit_at-lt, bit_at_ones, bit_at_above, bit_at_set_same, bit_at_set_other, bit_at_clear_same, bit_at_clear_other, bit_at_mask_inside, bit_at_mask_below, bit_at-trailing_zeros, ones_shl}
 use Rattle.tb_script.specs.Sets.{holds, TakesFirst, size_below, size}
 use Rattle.tb_script.specs.declared.session_set.SessionSet.{SessionSet}
+use Rattle.tb_script.proofs.WalkLaws.{apart}
 
 -- whether a bit is set
 abbrev is_set : ℕ → ℕ → Bool
 is_set bits n = bit_at bits n == 1
-
-other : (a b : ℕ) → (a == b) ≡ false → b ≢ a
-other a b e is = eqb-false a b e (sym is)
 
 pub add-holds : (bits at n : ℕ) → at < 64 → is_set (bit_or bits (1 * 2 ^ at % 2 ^ 64)) n ≡ ((at == n) || is_set bits n)
 add-holds bits at n within = by (at == n) refl
   where
     by : (b : Bool) → (at == n) ≡ b → is_set (bit_or bits (1 * 2 ^ at % 2 ^ 64)) n ≡ (b || is_set bits n)
     by true e = ap (λ k. k == 1) (subst (λ k. bit_at (bit_or bits (1 * 2 ^ at % 2 ^ 64)) k ≡ 1) (eqb-true at n e) (bit_at_set_same w64 bits at within))
-    by false e = ap (λ k. k == 1) (bit_at_set_other w64 bits at within n (other at n e))
+    by false e = ap (λ k. k == 1) (bit_at_set_other w64 bits at within n (apart at n e))
 
 pub all-holds : (at : ℕ) → at < 64 → is_set (2 ^ 64 - 1) at ≡ true
 all-holds at within = ap (λ k. k == 1) (bit_at_ones 64 at within)
@@ -56,7 +54,7 @@ clear-holds bits at n small within = by (at == n) refl (nat_lt n 64) refl
         ap (λ k. k == 1) (subst (λ k. bit_at (bit_and bits (2 ^ 64 - 1 - 1 * 2 ^ at % 2 ^ 64)) k ≡ 0) (eqb-true at n e) (bit_at_clear_same w64 bits at within))
         ∙ and-false (is_set bits n)
     by false e true f =
-        ap (λ k. k == 1) (bit_at_clear_other w64 bits at within n (ltb-true n 64 f) (other at n e)) ∙ and-true (is_set bits n)
+        ap (λ k. k == 1) (bit_at_clear_other w64 bits at within n (ltb-true n 64 f) (apart at n e)) ∙ and-true (is_set bits n)
     by false e false f =
         ap (λ k. k == 1) (bit_at_above (bit_and bits (2 ^ 64 - 1 - 1 * 2 ^ at % 2 ^ 64)) 64 n less (ltb-false n 64 f) ∙ sym (bit_at_above bits 64 n small (ltb-false n 64 f)))
         ∙ and-true (is_set bits n)

@@ -19,26 +19,16 @@ use Rattle.tb_script.specs.Walks.{HaveMarksBelow}
 use Rattle.tb_script.specs.Calls.{sessions_of}
 use Rattle.tb_script.specs.Rounds.{stuck_line}
 use Rattle.tb_script.proofs.BodyFitLaws.{Fits, bodies-fit}
-use Rattle.tb_script.proofs.EndLaws.{all-through}
+use Rattle.tb_script.proofs.EndLaws.{all-through, plain, plains}
 use Rattle.tb_script.proofs.MarkLaws.{nowhere}
 use Rattle.std.proofs.lemmas.List.{length-map}
 use Rattle.std.proofs.lemmas.Slice.Eq.{bytes_eq-Decides}
+use Rattle.tb_tree.proofs.lists.Options.{cond-none, is_some-none}
+use Rattle.tb_tree.proofs.lists.Bools.{denied}
 
-neither : (a b : Option ScriptFault) → or_else a b ≡ None → (a ≡ None) × (b ≡ None)
+pub neither : (a b : Option ScriptFault) → or_else a b ≡ None → (a ≡ None) × (b ≡ None)
 neither None b e = (refl, e)
 neither (Some f) b e = absurd (let d : ◌≡◌ {A = Option ScriptFault} (Some f) None = e in cc)
-
-unmet : (b : Bool) (f : ScriptFault) (o : Option ScriptFault) → cond b (Some f) o ≡ None → (b ≡ false) × (o ≡ None)
-unmet true f o e = absurd (let d : ◌≡◌ {A = Option ScriptFault} (Some f) None = e in cc)
-unmet false f o e = (refl, e)
-
-is-not : (b : Bool) → not b ≡ false → b ≡ true
-is-not true e = refl
-is-not false e = absurd (false≢true (sym e))
-
-no-place : (o : Option ℕ) → is_some o ≡ false → o ≡ None
-no-place None e = refl
-no-place (Some n) e = absurd (false≢true (sym e))
 
 -- what the tests at a line that has no fault say
 abbrev Passes : Counts → Said → Type 0
@@ -51,28 +41,28 @@ Passes t (Hear name) = (t.sessions ≢ 0) × (is_label name ≡ true) × (t.comm
 
 passes : (t : Counts) (n : ℕ) (said : Said) → fault_of t n said ≡ None → Passes t said
 passes t n Unknown e = absurd (let d : ◌≡◌ {A = Option ScriptFault} (fault_of t n Unknown) None = e in cc)
-passes t n Session e = leb-false 64 t.sessions (unmet _ _ _ e).0
+passes t n Session e = leb-false 64 t.sessions (cond-none _ _ _ e).0
 passes t n (Load name lines closed) e =
-    let a = unmet _ _ _ e in
-    let b = unmet _ _ _ a.1 in
-    let c = unmet _ _ _ b.1 in
-    let d = unmet _ _ _ c.1 in
-    (eqb-false t.sessions 0 a.0, is-not (is_label name) b.0, leb-false 10000 t.commands c.0, leb-false 65536 t.loads d.0)
+    let a = cond-none _ _ _ e in
+    let b = cond-none _ _ _ a.1 in
+    let c = cond-none _ _ _ b.1 in
+    let d = cond-none _ _ _ c.1 in
+    (eqb-false t.sessions 0 a.0, denied (is_label name) b.0, leb-false 10000 t.commands c.0, leb-false 65536 t.loads d.0)
 passes t n (Query text closed) e =
-    let a = unmet _ _ _ e in
-    let b = unmet _ _ _ a.1 in
+    let a = cond-none _ _ _ e in
+    let b = cond-none _ _ _ a.1 in
     (eqb-false t.sessions 0 a.0, leb-false 10000 t.commands b.0)
 passes t n (Tell name) e =
-    let a = unmet _ _ _ e in
-    let b = unmet _ _ _ a.1 in
-    let c = unmet _ _ _ b.1 in
-    let d = unmet _ _ _ c.1 in
-    (eqb-false t.sessions 0 a.0, is-not (is_label name) b.0, leb-false 10000 t.commands d.0, no-place (place_of name t.told) c.0)
+    let a = cond-none _ _ _ e in
+    let b = cond-none _ _ _ a.1 in
+    let c = cond-none _ _ _ b.1 in
+    let d = cond-none _ _ _ c.1 in
+    (eqb-false t.sessions 0 a.0, denied (is_label name) b.0, leb-false 10000 t.commands d.0, is_some-none (place_of name t.told) c.0)
 passes t n (Hear name) e =
-    let a = unmet _ _ _ e in
-    let b = unmet _ _ _ a.1 in
-    let c = unmet _ _ _ b.1 in
-    (eqb-false t.sessions 0 a.0, is-not (is_label name) b.0, leb-false 10000 t.commands c.0)
+    let a = cond-none _ _ _ e in
+    let b = cond-none _ _ _ a.1 in
+    let c = cond-none _ _ _ b.1 in
+    (eqb-false t.sessions 0 a.0, denied (is_label name) b.0, leb-false 10000 t.commands c.0)
 
 -- all lines pass
 abbrev AllPass : Counts → List Entry → Type 0
@@ -84,13 +74,6 @@ all_pass t [] e = tt
 all_pass t (d ∷ es) e =
     let parts = neither (fault_of t d.line d.said) (first_fault (and_then t d.said) es) e in
     (passes t d.line d.said parts.0, all_pass (and_then t d.said) es parts.1)
-
--- the commands of some lines
-abbrev plain : List Turn → List Command
-plain ts = map (λ t. t.command) ts
-
-abbrev plains : List (List Turn) → List (List Command)
-plains ss = map (map (λ t. t.command)) ss
 
 sessions-fit : (names : List (List ℕ)) (t : Counts) (es : List Entry) → AllPass t es → t.sessions ≤ 64 → t.sessions + length (sessions_in names es) ≤ 64
 sessions-fit names t [] p few = omega (arith, few)
@@ -163,12 +146,9 @@ named names t (e ∷ es) p = by e.line e.said p.0 (named names (and_then t e.sai
     by n (Tell name) q ih = ((q.1, ih.0), ih.1)
     by n (Hear name) q ih = ((q.1, ih.0), ih.1)
 
-same-bytes : (xs : List ℕ) → bytes_eq xs xs ≡ true
-same-bytes xs = (bytes_eq-Decides xs xs).1 refl
-
 -- a name that is told here has the next number
 place-told : (name : List ℕ) (told rest : List (List ℕ)) → place_of name told ≡ None → place_of name (told ++ name ∷ rest) ≡ Some (length told)
-place-told name [] rest e = rw (same-bytes name) refl
+place-told name [] rest e = rw ((bytes_eq-Decides name name).1 refl) refl
 place-told name (first ∷ told) rest e =
     let apart = nowhere name first told e in
     let more : length told + 1 ≡ suc (length told) = omega arith in

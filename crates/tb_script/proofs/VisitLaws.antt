@@ -1,7 +1,7 @@
 -- A session that is looked at: it goes on, or tells a mark and goes on, or waits.
 use Rattle.std.proofs.Common.{◌≡◌, ◌⊎◌, inl, inr, ℕ, ◌+◌, ◌<◌, ◌≤◌, ◌==◌, ◌&&◌, ◌||◌, nat_lt, Bool, true, false, List, [], ◌∷◌, ◌++◌, length, get_or, set, refl, sym, ap, ◌∙◌, subst, arith, eqb-true, eq-eqb}
 use Rattle.std.specs.List.{AllByRecursion}
-use Rattle.std.proofs.lemmas.Bool.{false≢true, ltb-true, ltb-false}
+use Rattle.std.proofs.lemmas.Bool.{false≢true, ltb-true, ltb-false, or_left, or_right}
 use Rattle.std.proofs.lemmas.List.{get_or-set_other, length-set}
 use Rattle.tb_script.specs.Rounds.{is_among, can_go, once_done, numbered}
 use Rattle.tb_script.specs.Sets.{holds}
@@ -22,22 +22,14 @@ MayDo told (Hear mark name) = get_or told mark false ≡ true
 MayDo told (Tell mark name) = ⊥
 MayDo told _ = Unit {0}
 
-or-right : (a b : Bool) → b ≡ true → (a || b) ≡ true
-or-right true b e = refl
-or-right false b e = e
-
-or-left : (a b : Bool) → a ≡ true → (a || b) ≡ true
-or-left true b e = refl
-or-left false b e = absurd (false≢true e)
-
 plain-on : (at : ℕ) (st : Stand) (c : Command) (later : SessionSet) → ((n : ℕ) → holds later n ≡ ((at == n) || holds st.later n)) → MayDo st.told c → GoesOn at st c st.told st.awake later
 plain-on at st c later has may = record {
   can = λ told agrees. can told agrees c may;
   agrees = λ told agrees m. tells told c may m ∙ agrees m;
   ahead = λ n below e. e;
   still = λ n e. e;
-  more = λ n e. has n ∙ or-right (at == n) (holds st.later n) e;
-  own = has at ∙ or-left (at == at) (holds st.later at) (eq-eqb at at refl);
+  more = λ n e. has n ∙ or_right (at == n) (holds st.later n) e;
+  own = has at ∙ or_left (at == at) (holds st.later at) (eq-eqb at at refl);
   wakes = λ n s w. inl w;
 }
   where
@@ -63,9 +55,9 @@ tell-on at mark name st awake later within w = record {
   can = λ told agrees. refl;
   agrees = λ told agrees. told-agrees told st.told (Tell mark name) within agrees;
   ahead = λ n below e. w.awake_is n ∙ ap (λ b. b || (nat_lt at n && holds (waiters_of st.waiters mark) n)) e ∙ before n below (nat_lt at n) refl;
-  still = λ n e. w.awake_is n ∙ or-left (holds st.awake n) (nat_lt at n && holds (waiters_of st.waiters mark) n) e;
-  more = λ n e. w.later_is n ∙ or-right (at == n) (holds st.later n || holds (waiters_of st.waiters mark) n) (or-left (holds st.later n) (holds (waiters_of st.waiters mark) n) e);
-  own = w.later_is at ∙ or-left (at == at) (holds st.later at || holds (waiters_of st.waiters mark) at) (eq-eqb at at refl);
+  still = λ n e. w.awake_is n ∙ or_left (holds st.awake n) (nat_lt at n && holds (waiters_of st.waiters mark) n) e;
+  more = λ n e. w.later_is n ∙ or_right (at == n) (holds st.later n || holds (waiters_of st.waiters mark) n) (or_left (holds st.later n) (holds (waiters_of st.waiters mark) n) e);
+  own = w.later_is at ∙ or_left (at == at) (holds st.later at || holds (waiters_of st.waiters mark) at) (eq-eqb at at refl);
   wakes = λ n s v. wakes n s v;
 }
   where
@@ -74,10 +66,10 @@ tell-on at mark name st awake later within w = record {
     before n below false e = refl
 
     later-woken : (n : ℕ) → holds (waiters_of st.waiters mark) n ≡ true → holds later n ≡ true
-    later-woken n e = w.later_is n ∙ or-right (at == n) (holds st.later n || holds (waiters_of st.waiters mark) n) (or-right (holds st.later n) (holds (waiters_of st.waiters mark) n) e)
+    later-woken n e = w.later_is n ∙ or_right (at == n) (holds st.later n || holds (waiters_of st.waiters mark) n) (or_right (holds st.later n) (holds (waiters_of st.waiters mark) n) e)
 
     awake-woken : (n : ℕ) → holds (waiters_of st.waiters mark) n ≡ true → at < n → holds awake n ≡ true
-    awake-woken n e over = w.awake_is n ∙ or-right (holds st.awake n) (nat_lt at n && holds (waiters_of st.waiters mark) n) (by (nat_lt at n) refl)
+    awake-woken n e over = w.awake_is n ∙ or_right (holds st.awake n) (nat_lt at n && holds (waiters_of st.waiters mark) n) (by (nat_lt at n) refl)
       where
         by : (b : Bool) → nat_lt at n ≡ b → (b && holds (waiters_of st.waiters mark) n) ≡ true
         by true f = e
@@ -165,7 +157,7 @@ stay-visits st new at number mark name rest fits row untold s =
     subst (Visits at st) (sym s.same)
     (record {
       fits = record { same = s.places ∙ fits.same; rows = fits.rows };
-      follows = λ css f. waits-follows css at (with_waiters st new.waiters) waits (waiters-follow css at (at + 1) st new.waiters (λ m n e. s.waiters m n ∙ or-right ((mark == m) && (at == n)) (holds (waiters_of st.waiters m) n) e) f);
+      follows = λ css f. waits-follows css at (with_waiters st new.waiters) waits (waiters-follow css at (at + 1) st new.waiters (λ m n e. s.waiters m n ∙ or_right ((mark == m) && (at == n)) (holds (waiters_of st.waiters m) n) e) f);
       lighter = omega arith;
     })
   where
@@ -176,7 +168,7 @@ stay-visits st new at number mark name rest fits row untold s =
     waits =
         subst (Waits st.told new.waiters at) (sym row) (
           untold,
-          s.waiters mark at ∙ or-left ((mark == mark) && (at == at)) (holds (waiters_of st.waiters mark) at) (both (mark == mark) (at == at) (eq-eqb mark mark refl) (eq-eqb at at refl)),
+          s.waiters mark at ∙ or_left ((mark == mark) && (at == at)) (holds (waiters_of st.waiters mark) at) (both (mark == mark) (at == at) (eq-eqb mark mark refl) (eq-eqb at at refl)),
         )
 
 -- A session of which nothing is left is passed.

@@ -7,8 +7,8 @@ use Rattle.tb_span.specs.Lists.{AreJoinable}
 use Rattle.tb_span.specs.Seeds.{no_item, label_at, places, is_open_at, open_places}
 use Rattle.tb_span.specs.declared.item.Item.{Item}
 use Rattle.tb_stackjoin.specs.Stacks.{lasts}
-use Rattle.tb_stackjoin.proofs.Filters.{filter_filter}
-use Rattle.tb_stackjoin.proofs.Ranges.{range_more, All-range}
+use Rattle.tb_tree.proofs.lists.Filters.{filter_filter}
+use Rattle.tb_tree.proofs.lists.Ranges.{range_more, All-range}
 use Rattle.tb_stackjoin.proofs.PlaceLaws.{places_join}
 use Rattle.tb_stackjoin.proofs.RunLaws.{start_rises}
 use Rattle.tb_stackjoin.proofs.StackLaws.{nest_above}

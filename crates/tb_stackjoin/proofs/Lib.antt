@@ -1,8 +1,5 @@
-pub mod Filters
 pub mod Told
-pub mod Ranges
 pub mod PlaceLaws
-pub mod Prefixes
 pub mod StackLaws
 pub mod RunLaws
 pub mod KeptLaws

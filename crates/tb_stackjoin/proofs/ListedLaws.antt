@@ -12,8 +12,9 @@ use Rattle.tb_span.specs.declared.item.Axis.{Axis}
 use Rattle.tb_span.specs.declared.item.Item.{Item}
 use Rattle.tb_span.specs.declared.item.Pair.{Pair}
 use Rattle.tb_stackjoin.specs.Pairs.{pair, above, paired, pairs_of, pairs_by_descendant}
-use Rattle.tb_stackjoin.proofs.Filters.{filter-keep}
-use Rattle.tb_stackjoin.proofs.Ranges.{All-range, range_rises, AllPairs-nil, AllPairs-head, AllPairs-tail}
+use Rattle.tb_tree.proofs.lists.Filters.{filter-keep}
+use Rattle.tb_tree.proofs.lists.Ranges.{All-range, range_rises}
+use Rattle.tb_tree.proofs.lists.Pairs.{AllPairs-nil, AllPairs-head, AllPairs-tail}
 
 -- the places of an ancestor in `a` and of a descendant in the range of `d`, related on the axis
 pub record IsRelatedPair (axis : Axis) (a d : List Item) (lo hi : ℕ) (p : Pair) : Type 0 where

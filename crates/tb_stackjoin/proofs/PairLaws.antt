@@ -14,8 +14,8 @@ use Rattle.tb_span.specs.declared.item.Item.{Item}
 use Rattle.tb_span.specs.declared.item.Pair.{Pair}
 use Rattle.tb_stackjoin.specs.Pairs.{pair, above, paired, related_places, pairs_of, pairs_by_descendant}
 use Rattle.tb_stackjoin.specs.Stacks.{IsStack, AreAbove, lasts}
-use Rattle.tb_stackjoin.proofs.Filters.{filter_all, filter_none, filter_filter, filter-keep, filter-skip}
-use Rattle.tb_stackjoin.proofs.Ranges.{All-range, range_more, range_none}
+use Rattle.tb_tree.proofs.lists.Filters.{filter_all, filter_none, filter_filter, filter-keep, filter-skip}
+use Rattle.tb_tree.proofs.lists.Ranges.{All-range, range_more, range_none}
 use Rattle.tb_stackjoin.proofs.PlaceLaws.{places_join, filter_places-yes, filter_places-no}
 
 -- on either axis the ancestor contains the descendant

@@ -5,8 +5,8 @@ use Rattle.std.proofs.lemmas.Bool.{cases_eq}
 use Rattle.std.proofs.lemmas.List.{get_or-map}
 use Rattle.tb_span.specs.Seeds.{no_item, label_at, places}
 use Rattle.tb_span.specs.declared.item.Item.{Item}
-use Rattle.tb_stackjoin.proofs.Filters.{filter_push-yes, filter_push-no}
-use Rattle.tb_stackjoin.proofs.Ranges.{range_join}
+use Rattle.tb_tree.proofs.lists.Filters.{filter_push-yes, filter_push-no}
+use Rattle.tb_tree.proofs.lists.Ranges.{range_join}
 
 pub places_join : (m n : ℕ) → m ≤ n → places m ++ range_with_len m (n - m) ≡ places n
 places_join m n le =

@@ -9,7 +9,7 @@ use Rattle.tb_span.specs.Seeds.{no_item, label_at}
 use Rattle.tb_span.specs.declared.item.Item.{Item}
 use Rattle.tb_stackjoin.specs.Turns.{starts_before, turns}
 use Rattle.tb_stackjoin.specs.Stacks.{run}
-use Rattle.tb_stackjoin.proofs.Prefixes.{prefix_skip, prefix_le_count}
+use Rattle.tb_tree.proofs.lists.Prefixes.{prefix_skip, prefix_le_count}
 
 -- Starts rise, so the item at a place starts at the place or later.
 pub place-start : (a : List Item) (i : ℕ) → IsSortedByStart a → i < length a → i ≤ (label_at a i).start

@@ -14,8 +14,10 @@ use Rattle.tb_span.specs.declared.item.Axis.{Axis}
 use Rattle.tb_span.specs.declared.item.Item.{Item}
 use Rattle.tb_span.specs.declared.item.Pair.{Pair}
 use Rattle.tb_stackjoin.specs.Pairs.{pair, above, pairs_of, pairs_by_descendant, pairs_under, pairs_by_ancestor, of_ancestor, AreByAncestor}
-use Rattle.tb_stackjoin.proofs.Filters.{filter_all, filter_none, filter_filter, filter-keep, filter-skip, filter_swap, filter-map, flat_map_same, filter_same}
-use Rattle.tb_stackjoin.proofs.Ranges.{All-range, AllPairs-head, AllPairs-tail}
+use Rattle.tb_tree.proofs.lists.Filters.{filter_all, filter_none, filter_filter, filter-keep, filter-skip, filter_swap, filter-map, filter_same}
+use Rattle.tb_tree.proofs.lists.Maps.{flat_map_same}
+use Rattle.tb_tree.proofs.lists.Ranges.{All-range}
+use Rattle.tb_tree.proofs.lists.Pairs.{AllPairs-head, AllPairs-tail}
 use Rattle.tb_stackjoin.proofs.ListedLaws.{IsRelatedPair, listed-related}
 
 -- the elements with this key, and those with a greater one

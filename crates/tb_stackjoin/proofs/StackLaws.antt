@@ -9,7 +9,8 @@ use Rattle.tb_span.specs.Lists.{IsSortedByStart, Nest}
 use Rattle.tb_span.specs.Seeds.{no_item, label_at, places, is_open_at, open_places}
 use Rattle.tb_span.specs.declared.item.Item.{Item}
 use Rattle.tb_stackjoin.specs.Stacks.{IsStack, AreAbove, lasts}
-use Rattle.tb_stackjoin.proofs.Ranges.{All-range, range_rises, AllPairs-push}
+use Rattle.tb_tree.proofs.lists.Ranges.{All-range, range_rises}
+use Rattle.tb_tree.proofs.lists.Pairs.{AllPairs-push}
 
 -- of two labels that nest, the one that starts first and lasts till the other starts is above it
 pub nest_above : (u v : Span) → Nests u v → u.start < v.start → v.start ≤ u.end → v.start < v.end → IsAbove u v

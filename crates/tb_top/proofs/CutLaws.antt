@@ -6,37 +6,34 @@ use Rattle.std.proofs.lemmas.List.{take_at, drop_at, take-append-drop}
 use Rattle.std.proofs.lemmas.List.Folds.{length-prefix_len}
 use Rattle.std.proofs.lemmas.Slice.Eq.{bytes_eq-Decides}
 use Rattle.std.proofs.lemmas.Bool.{and_parts, and_from, or_parts, false≢true, ne_eqb, le-ltb, ltb-false, eqb-false, leb-true, le-leb}
-use Rattle.tb_tree.proofs.Steps.{guarded, kept, same_pair}
-use Rattle.tb_tree.proofs.Fronts.{prefix_len-stop, take-prefix_len}
+use Rattle.tb_tree.proofs.lists.Options.{guarded}
+use Rattle.std.proofs.lemmas.Option.{cond_some, some_pair_parts}
+use Rattle.tb_tree.proofs.lists.Prefixes.{prefix_len-stop, take-prefix_len}
 use Rattle.tb_script.specs.Forms.{is_label, is_label_byte}
 use Rattle.tb_top.specs.Names.{is_query_name, starts_name, begins_name, goes_on, all_go_on}
 use Rattle.tb_top.specs.Cuts.{behind, before, label_at, run, name_at}
-
--- a text is itself
-pub bytes_eq-same : (text : List ℕ) → bytes_eq text text ≡ true
-bytes_eq-same text = (bytes_eq-Decides text text).1 refl
 
 pub bytes_eq-is : (a b : List ℕ) → bytes_eq a b ≡ true → a ≡ b
 bytes_eq-is a b e = (bytes_eq-Decides a b).0 e
 
 -- what stands behind a front, and before an end
 pub behind-front : (front rest : List ℕ) → behind front (front ++ rest) ≡ Some rest
-behind-front front rest = rw (take_at front rest (length front) refl, drop_at front rest (length front) refl, bytes_eq-same front) refl
+behind-front front rest = rw (take_at front rest (length front) refl, drop_at front rest (length front) refl, (bytes_eq-Decides front front).1 refl) refl
 
 pub behind-some : (front text rest : List ℕ) → behind front text ≡ Some rest → text ≡ front ++ rest
 behind-some front text rest e =
-    let parts = kept (bytes_eq (take (length front) text) front) (drop (length front) text) rest e in
+    let parts = cond_some (bytes_eq (take (length front) text) front) (drop (length front) text) rest e in
     sym (take-append-drop (length front) text) ∙ ap₂ (λ a b. a ++ b) (bytes_eq-is (take (length front) text) front parts.0) parts.1
 
 pub before-end : (end rest : List ℕ) → before end (rest ++ end) ≡ Some rest
 before-end end rest =
     let len : length (rest ++ end) - length end ≡ length rest = omega (arith, length-append rest end) in
-    rw (len, take_at rest end (length rest) refl, drop_at rest end (length rest) refl, bytes_eq-same end) refl
+    rw (len, take_at rest end (length rest) refl, drop_at rest end (length rest) refl, (bytes_eq-Decides end end).1 refl) refl
 
 pub before-some : (end text rest : List ℕ) → before end text ≡ Some rest → text ≡ rest ++ end
 before-some end text rest e =
     let n = length text - length end in
-    let parts = kept (bytes_eq (drop n text) end) (take n text) rest e in
+    let parts = cond_some (bytes_eq (drop n text) end) (take n text) rest e in
     sym (take-append-drop n text) ∙ ap₂ (λ a b. a ++ b) parts.1 (bytes_eq-is (drop n text) end parts.0)
 
 -- a label at the front, where a byte follows that is none of its bytes
@@ -55,7 +52,7 @@ label_at-some text name rest e =
     let n = prefix_len is_label_byte text in
     let parts = guarded (n == 0 || nat_lt 64 n) (Some (take n text, drop n text)) (name, rest) e in
     let sizes = or_parts (n == 0) (nat_lt 64 n) parts.0 in
-    let same = same_pair (take n text) (drop n text) name rest parts.1 in
+    let same = some_pair_parts (take n text) name (drop n text) rest parts.1 in
     let len : length name ≡ n = sym (ap length same.0) ∙ length-prefix_len is_label_byte text in
     let all = subst (λ t. list_all is_label_byte t ≡ true) same.0 (take-prefix_len is_label_byte text) in
     let some = le-leb 1 (length name) (omega (arith, len, eqb-false n 0 sizes.0)) in
@@ -124,6 +121,6 @@ run_named (c ∷ cs) begins =
 
 pub name_at-some : (text name rest : List ℕ) → ◌≡◌ {A = Option (List ℕ × List ℕ)} (name_at text) (Some (name, rest)) → (text ≡ name ++ rest) × IsTrue (is_query_name name)
 name_at-some text name rest e =
-    let parts = kept (begins_name text) (take (run text) text, drop (run text) text) (name, rest) e in
-    let same = same_pair (take (run text) text) (drop (run text) text) name rest (ap Some parts.1) in
+    let parts = cond_some (begins_name text) (take (run text) text, drop (run text) text) (name, rest) e in
+    let same = some_pair_parts (take (run text) text) name (drop (run text) text) rest (ap Some parts.1) in
     (sym (take-append-drop (run text) text) ∙ ap₂ (λ a b. a ++ b) same.0 same.1, subst (λ t. IsTrue (is_query_name t)) same.0 (run_named text parts.0))

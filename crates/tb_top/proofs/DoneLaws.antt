@@ -7,7 +7,7 @@ use Rattle.std.proofs.lemmas.List.Concat.{flat_map-append}
 use Rattle.std.proofs.lemmas.List.Elements.{filter-append}
 use Rattle.std.proofs.lemmas.List.Folds.{flat_map-map}
 use Rattle.std.proofs.lemmas.List.FromFn.{length-map-range_with_len, get_or-map-range_with_len}
-use Rattle.tb_tree.proofs.Alls.{all-append, all-weaker}
+use Rattle.tb_tree.proofs.lists.Alls.{all-append, all-weaker}
 use Rattle.tb_script.specs.Runnable.{commands_in}
 use Rattle.tb_script.specs.Schedule.{schedule_of, command_at}
 use Rattle.tb_script.specs.declared.command.Command.{Command}
@@ -23,6 +23,7 @@ use Rattle.tb_top.specs.Deeds.{Record, loaded, refused, answered, refused_query,
 use Rattle.tb_top.specs.Single.{step_of, world_of, IsTranscript}
 use Rattle.tb_top.specs.Transcript.{block_of, blocks_of, history_part}
 use Rattle.tb_top.specs.Running.{Progress, Does, begun, at_start, ended}
+use Rattle.tb_tree.proofs.lists.Maps.{map-alike}
 
 -- the answers of events, and what they leave, one after the other
 pub run-append : (w : State) (es fs : List Event) → run w (es ++ fs) ≡ run w es ++ run (after_all w es) fs
@@ -128,10 +129,6 @@ pub record Done (w : Workload) (steps : List Turnstep) (p : Progress) : Type 0 w
   pub changes_are : p.changes ≡ history_of ds
   pub sessions_are : p.sessions ≡ length w.sessions.items
   pub parts_are : p.parts ≡ parts_of (length w.sessions.items) ds
-
-map-alike : {X Y : Type 0} (f g : X → Y) → ((x : X) → f x ≡ g x) → (xs : List X) → map f xs ≡ map g xs
-map-alike f g alike [] = refl
-map-alike f g alike (x ∷ xs) = ap₂ (λ y ys. y ∷ ys) (alike x) (map-alike f g alike xs)
 
 pub done-start : (w : Workload) → Done w [] (at_start w)
 done-start w =

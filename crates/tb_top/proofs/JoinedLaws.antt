@@ -29,22 +29,16 @@ use Rattle.tb_label.proofs.PlacedLaws.{numbered}
 use Rattle.tb_stackjoin.specs.Pairs.{pair, pairs_of, pairs_by_descendant, pairs_under, pairs_by_ancestor, AreByAncestor}
 use Rattle.tb_stackjoin.proofs.ListedLaws.{IsRelatedPair, listed-related}
 use Rattle.tb_stackjoin.proofs.SortLaws.{by_ancestor}
-use Rattle.tb_stackjoin.proofs.Filters.{filter_swap, filter-map, filter-keep, flat_map_same}
-use Rattle.tb_stackjoin.proofs.Ranges.{All-range}
+use Rattle.tb_tree.proofs.lists.Filters.{filter_swap, filter-map, filter-keep}
+use Rattle.tb_tree.proofs.lists.Maps.{flat_map_same, map-flat_map}
+use Rattle.tb_tree.proofs.lists.Ranges.{All-range}
 use Rattle.tb_pattern.specs.Witness.{naive_witnesses, numbers_in}
 use Rattle.tb_top.specs.Answer.{two_names}
 use Rattle.tb_top.specs.Pairs.{numbers_of, named, seconds_under, firsts_in}
 use Rattle.tb_top.specs.Joined.{item_at, match_at, ArePlaces}
 use Rattle.tb_top.proofs.WitnessLaws.{matches-naive}
 use Rattle.tb_top.specs.declared.matching.Match.{Match}
-
-map-flat_map : {X Y Z : Type 0} (g : Y → Z) (f : X → List Y) (xs : List X) → map g (flat_map f xs) ≡ flat_map (λ x. map g (f x)) xs
-map-flat_map g f [] = refl
-map-flat_map g f (x ∷ xs) = map-append g (f x) (flat_map f xs) ∙ ap (λ ys. map g (f x) ++ ys) (map-flat_map g f xs)
-
-flat_map-map : {X Y Z : Type 0} (f : Y → List Z) (g : X → Y) (xs : List X) → flat_map f (map g xs) ≡ flat_map (λ x. f (g x)) xs
-flat_map-map f g [] = refl
-flat_map-map f g (x ∷ xs) = ap (λ ys. f (g x) ++ ys) (flat_map-map f g xs)
+use Rattle.std.proofs.lemmas.List.Folds.{flat_map-map}
 
 -- a list is what stands at its places
 shifted : (g : ℕ → Item) (lo : ℕ) (items : List Item) → ((i : ℕ) → i < length items → g (lo + i) ≡ item_at items i) → map g (range_with_len lo (length items)) ≡ items

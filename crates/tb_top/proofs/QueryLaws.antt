@@ -2,7 +2,8 @@
 use Rattle.std.proofs.Common.{◌≡◌, ℕ, ◌≤◌, IsTrue, List, ◌++◌, length, Option, Some, codes, refl, sym, ap, ap₂, ◌∙◌, subst, nat_le}
 use Rattle.std.specs.Str.{bytes_eq}
 use Rattle.std.proofs.lemmas.Bool.{le-leb, leb-true}
-use Rattle.tb_tree.proofs.Steps.{bind_some, kept}
+use Rattle.tb_tree.proofs.lists.Options.{bind_some}
+use Rattle.std.proofs.lemmas.Option.{cond_some}
 use Rattle.tb_script.specs.Forms.{is_label}
 use Rattle.tb_top.specs.Names.{is_query_name}
 use Rattle.tb_top.specs.QueryText.{Query, IsQuery, query_line}
@@ -48,7 +49,7 @@ query_of-some line document first second e =
     let d = bind_some (name_at c.0) _ (document, first, second) c.2 in
     let f = bind_some (behind (codes " (//- ") d.0.1) _ (document, first, second) d.2 in
     let g = bind_some (name_at f.0) _ (document, first, second) f.2 in
-    let end = kept (bytes_eq g.0.1 (codes "))")) (b.0.0, d.0.0, g.0.0) (document, first, second) g.2 in
+    let end = cond_some (bytes_eq g.0.1 (codes "))")) (b.0.0, d.0.0, g.0.0) (document, first, second) g.2 in
     let same = same_names b.0.0 d.0.0 g.0.0 document first second (ap Some end.1) in
     let labelled = label_at-some a.0 b.0.0 b.0.1 b.1 in
     let one = name_at-some c.0 d.0.0 d.0.1 d.1 in
@@ -80,7 +81,7 @@ unfolding query_in
 query_in-some text q e =
     let a = bind_some (before (codes "\n") text) _ q e in
     let b = bind_some (query_of a.0) _ q a.2 in
-    let end = kept (nat_le (length a.0) 65535) (record { document = b.0.0; first = b.0.1; second = b.0.2 }) q b.2 in
+    let end = cond_some (nat_le (length a.0) 65535) (record { document = b.0.0; first = b.0.1; second = b.0.2 }) q b.2 in
     let line = query_of-some a.0 b.0.0 b.0.1 b.0.2 b.1 in
     let found : Query = record { document = b.0.0; first = b.0.1; second = b.0.2 } in
     let is : IsQuery text found =

@@ -20,6 +20,8 @@ use Rattle.tb_top.specs.History.{Change}
 use Rattle.tb_top.specs.Deeds.{Record, loaded, refused, answered, refused_query, told, heard, event_of, change_by, IsResult}
 use Rattle.tb_top.specs.Single.{IsBuilt, AreBuilt}
 use Rattle.tb_top.specs.Running.{Progress, Does, Stands, IsReadyFor, begun, at_start}
+use Rattle.tb_tree.proofs.lists.Options.{value_of-some}
+use Rattle.tb_core.proofs.ChangeLaws.{history-with_seen}
 
 -- the marks that were told are these
 abbrev Agree : List ℕ → State → Type 0
@@ -45,10 +47,6 @@ seen-told w session (Some n) = refl
 seen-room : (w : State) (session : ℕ) (o : Option ℕ) → (with_seen w session o).room ≡ w.room
 seen-room w session None = refl
 seen-room w session (Some n) = refl
-
-seen-history : (w : State) (session : ℕ) (o : Option ℕ) → (with_seen w session o).history ≡ w.history
-seen-history w session None = refl
-seen-history w session (Some n) = refl
 
 -- a mark that is told is among the marks that are
 told-more : (w : State) (session mark : ℕ) (marks : List ℕ) → mark < length w.told → Agree marks w → (k : ℕ) → is_some (get_or (set w.told mark (answer w (event.Tell session mark))) k None) ≡ ((mark == k) || is_among k marks)
@@ -101,7 +99,7 @@ left w marks session history cs (Hear mark name) (heard k) may below =
       seen = seen-length w session o;
       tolds = ap length (seen-told w session o);
       room = seen-room w session o;
-      history = ap length (seen-history w session o) ∙ omega arith;
+      history = ap length (history-with_seen w session o) ∙ omega arith;
       agree = λ agree k'. ap (λ t. is_some (get_or t k' None)) (seen-told w session o) ∙ agree k';
       few = λ more. omega arith;
     }
@@ -158,15 +156,11 @@ some-within [] k is = absurd (false≢true is)
 some-within (x ∷ xs) zero is = omega arith
 some-within (x ∷ xs) (suc k) is = let h = some-within xs k is in omega arith
 
-some : {X : Type 0} (o : Option X) → IsSome o → (x : X) × (o ≡ Some x)
-some None is = absurd (false≢true is)
-some (Some x) is = (x, refl)
-
 -- the commands of a step's session
 pub row-read : (w : Workload) (step : Turnstep) (script : Script) → IsSome (command_at (commands_in w) step) → script ≡ get_or w.sessions.items step.session script
     → get_or (commands_in w) step.session [] ≡ script.commands.items
 row-read w step script is at =
-    let there = some (command_at (commands_in w) step) is in
+    let there = value_of-some (command_at (commands_in w) step) is in
     let within = row (commands_in w) step there.0 there.1 in
     get_or-map (λ s. s.commands.items) w.sessions.items step.session script [] (omega (arith, within, length-map w.sessions.items (λ s. s.commands.items)))
     ∙ ap (λ s. s.commands.items) (sym at)

@@ -15,6 +15,7 @@ use Rattle.tb_script.proofs.ScheduleLaws.{schedule-keeps}
 use Rattle.tb_top.specs.Deeds.{Deed}
 use Rattle.tb_top.proofs.RunnableLaws.{read-runnable}
 use Rattle.tb_top.specs.Single.{step_of, IsRun}
+use Rattle.tb_tree.proofs.lists.Maps.{somes-same}
 
 -- the deeds of a session
 abbrev pub deeds_of : ℕ → List Deed → List Deed
@@ -57,16 +58,6 @@ elements cs =
     let within : i < n = omega (arith, less, long) in
     get_or-map-range_with_len (slice_get cs) 0 n i i None within (omega arith) ∙ slice_get-get_or cs i none within ∙ sym (get_or-map (λ c. Some c) cs i none None within))
 
-same-elements : {X : Type 0} (xs ys : List X) → map (λ x. Some x) xs ≡ map (λ y. Some y) ys → xs ≡ ys
-same-elements [] [] e = refl
-same-elements [] (y ∷ ys) e = absurd (let d : ◌≡◌ {A = List (Option _)} [] (Some y ∷ map (λ z. Some z) ys) = e in cc)
-same-elements (x ∷ xs) [] e = absurd (let d : ◌≡◌ {A = List (Option _)} (Some x ∷ map (λ z. Some z) xs) [] = e in cc)
-same-elements (x ∷ xs) (y ∷ ys) e =
-    let d : ◌≡◌ {A = List (Option _)} (Some x ∷ map (λ z. Some z) xs) (Some y ∷ map (λ z. Some z) ys) = e in
-    let first : x ≡ y = cc in
-    let rest : map (λ z. Some z) xs ≡ map (λ z. Some z) ys = cc in
-    ap₂ (λ z zs. z ∷ zs) first (same-elements xs ys rest)
-
 -- The commands of a session are done once, in their order: first that their numbers run from 0, then that
 -- the deeds are of just these commands.
 pub run-places : (bytes : List ℕ) (w : Workload) (ds : List Deed) → IsReadAs bytes w → IsRun w ds → (session : ℕ) → map (λ d. d.place) (deeds_of session ds) ≡ range_with_len 0 (length (get_or (commands_in w) session []))
@@ -75,5 +66,5 @@ run-places bytes w ds read is session = places-are session ds ∙ ap (numbers_of
 pub run-keeps : (bytes : List ℕ) (w : Workload) (ds : List Deed) → IsReadAs bytes w → IsRun w ds → (session : ℕ) → map (λ d. d.command) (deeds_of session ds) ≡ get_or (commands_in w) session []
 run-keeps bytes w ds read is session =
     let row = get_or (commands_in w) session [] in
-    same-elements (map (λ d. d.command) (deeds_of session ds)) row
+    somes-same (map (λ d. d.command) (deeds_of session ds)) row
     (map-map (λ c. Some c) (λ (d : Deed). d.command) (deeds_of session ds) ∙ commands-at (commands_in w) session ds is.commands ∙ ap (map (slice_get row)) (run-places bytes w ds read is session) ∙ elements row)

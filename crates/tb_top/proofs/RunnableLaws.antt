@@ -12,15 +12,11 @@ use Rattle.tb_script.specs.declared.command.Workload.{Workload}
 use Rattle.tb_script.specs.declared.fault.ScriptFault.{ScriptFault}
 use Rattle.tb_script.specs.declared.fault.ScriptFault.TheVariants.{InputTooLong, MarkStuck}
 use Rattle.tb_script.proofs.BodyFitLaws.{script-fits}
-use Rattle.tb_script.proofs.SoundLaws.{are_runnable}
+use Rattle.tb_script.proofs.SoundLaws.{are_runnable, neither}
 
 short : (past : Bool) (o : Option ScriptFault) → cond past (Some InputTooLong) o ≡ None → (past ≡ false) × (o ≡ None)
 short true o e = absurd (let d : ◌≡◌ {A = Option ScriptFault} (Some InputTooLong) None = e in cc)
 short false o e = (refl, e)
-
-neither : (o p : Option ScriptFault) → or_else o p ≡ None → (o ≡ None) × (p ≡ None)
-neither None p e = (refl, e)
-neither (Some f) p e = absurd (let d : ◌≡◌ {A = Option ScriptFault} (Some f) None = e in cc)
 
 unmapped : (o : Option ℕ) → option_map MarkStuck o ≡ None → o ≡ None
 unmapped None e = refl

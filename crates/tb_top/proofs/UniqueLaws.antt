@@ -23,6 +23,9 @@ use Rattle.tb_top.specs.Transcript.{transcript_of}
 use Rattle.tb_top.proofs.DoneLaws.{run-append, changes_behind-append}
 use Rattle.tb_top.proofs.QueryLaws.{query-unique}
 use Rattle.tb_top.proofs.FaultLaws.{refused-once, never-both}
+use Rattle.tb_tree.proofs.lists.Parts.{parts-same, first-same}
+use Rattle.std.proofs.lemmas.Option.{same_Some}
+use Rattle.tb_core.proofs.ChangeLaws.{history-with_seen}
 
 abbrev event : Numbered → Event
 event x = x.event
@@ -38,27 +41,12 @@ run-length : (w : State) (es : List Event) → length (run w es) ≡ length es
 run-length w [] = refl
 run-length w (e ∷ es) = ap suc (run-length (after w e) es)
 
--- two lists in two parts, the first of which are as long
-parts : {X : Type 0} (xs ys zs ws : List X) → length xs ≡ length zs → xs ++ ys ≡ zs ++ ws → (xs ≡ zs) × (ys ≡ ws)
-parts [] ys [] ws long same = (refl, same)
-parts [] ys (z ∷ zs) ws long same = absurd (omega arith)
-parts (x ∷ xs) ys [] ws long same = absurd (omega arith)
-parts (x ∷ xs) ys (z ∷ zs) ws long same =
-    let first : x ≡ z = cc in
-    let rest : xs ++ ys ≡ zs ++ ws = cc in
-    let more = parts xs ys zs ws (omega arith) rest in
-    (ap₂ (λ b bs. b ∷ bs) first more.0, more.1)
-
 -- answers of two lists of events, one behind the other
 answers-parts : (w : State) (xs ys : List Numbered) → Answers w (xs ++ ys) → Answers w xs × Answers (after_all w (map event xs)) ys
 answers-parts w xs ys answers =
     let both : run w (map event xs) ++ run (after_all w (map event xs)) (map event ys) ≡ map number xs ++ map number ys =
     sym (run-append w (map event xs) (map event ys)) ∙ ap (run w) (sym (map-append event xs ys)) ∙ answers ∙ map-append number xs ys in
-    parts _ _ _ _ (run-length w (map event xs) ∙ length-map xs event ∙ sym (length-map xs number)) both
-
-still : (w : State) (session : ℕ) (o : Option ℕ) → (with_seen w session o).history ≡ w.history
-still w session None = refl
-still w session (Some n) = refl
+    parts-same _ _ _ _ (run-length w (map event xs) ∙ length-map xs event ∙ sym (length-map xs number)) both
 
 -- a command adds a change exactly where its event lengthens the history
 longer : (w : State) (session : ℕ) (history cs : List Change) (c : Command) (r : Record) → IsResult history c r → length w.history ≡ length cs
@@ -68,7 +56,7 @@ longer w session history cs (Load name lines) (refused fault) may same = same �
 longer w session history cs (Query t) (answered front answer) may same = same ∙ ap length (sym (append-nil cs))
 longer w session history cs (Query t) (refused_query fault) may same = same ∙ ap length (sym (append-nil cs))
 longer w session history cs (Tell mark name) (told k) may same = same ∙ ap length (sym (append-nil cs))
-longer w session history cs (Hear mark name) (heard k) may same = ap length (still w session (answer w (event_kind.Hear session mark))) ∙ same ∙ ap length (sym (append-nil cs))
+longer w session history cs (Hear mark name) (heard k) may same = ap length (history-with_seen w session (answer w (event_kind.Hear session mark))) ∙ same ∙ ap length (sym (append-nil cs))
 longer w session history cs (Load name lines) (answered a b) may same = absurd may
 longer w session history cs (Load name lines) (refused_query a) may same = absurd may
 longer w session history cs (Load name lines) (told a) may same = absurd may
@@ -99,15 +87,9 @@ begins cs (d ∷ ds) =
 front-of : (cs : List Change) (ds : List Deed) → take (length cs) (changes_behind cs ds) ≡ cs
 front-of cs ds = let rest = begins cs ds in ap (take (length cs)) rest.1 ∙ take_at cs rest.0 (length cs) refl
 
-some-same : {X : Type 0} (x y : X) → ◌≡◌ {A = Option X} (Some x) (Some y) → x ≡ y
-some-same x y e = cc
-
-first-same : (x y : Option ℕ) → ◌≡◌ {A = List (Option ℕ)} (x ∷ []) (y ∷ []) → x ≡ y
-first-same x y e = cc
-
 -- the number of an event that is answered twice
 number-same : (w : State) (e : Event) (k l : ℕ) → answer w e ∷ [] ≡ Some k ∷ [] → answer w e ∷ [] ≡ Some l ∷ [] → k ≡ l
-number-same w e k l a b = some-same k l (sym (first-same (answer w e) (Some k) a) ∙ first-same (answer w e) (Some l) b)
+number-same w e k l a b = same_Some k l (sym (first-same (answer w e) (Some k) [] [] a) ∙ first-same (answer w e) (Some l) [] [] b)
 
 -- two answers of a query at one front, over histories that are the same up to there
 answer-same : (cs one two : List Change) (t : List ℕ) (f g : ℕ) (a b : _) → take (length cs) one ≡ cs → take (length cs) two ≡ cs → f ≡ length cs → g ≡ length cs
@@ -127,10 +109,10 @@ result-same w session cs one two (Load name lines) (loaded k t) (refused f) long
     absurd (let d : ◌≡◌ {A = Option EsisFault} None (Some f) = sym (read-clean lines t m1).0 ∙ m2 in cc)
 result-same w session cs one two (Load name lines) (refused f) (loaded k t) long b1 b2 a1 a2 m1 m2 =
     absurd (let d : ◌≡◌ {A = Option EsisFault} None (Some f) = sym (read-clean lines t m2).0 ∙ m1 in cc)
-result-same w session cs one two (Load name lines) (refused f) (refused g) long b1 b2 a1 a2 m1 m2 = ap refused (some-same f g (sym m1 ∙ m2))
+result-same w session cs one two (Load name lines) (refused f) (refused g) long b1 b2 a1 a2 m1 m2 = ap refused (same_Some f g (sym m1 ∙ m2))
 result-same w session cs one two (Query t) (answered f a) (answered g b) long b1 b2 a1 a2 m1 m2 =
-    let at_f = some-same (length w.history) f (first-same (Some (length w.history)) (Some f) a1) in
-    let at_g = some-same (length w.history) g (first-same (Some (length w.history)) (Some g) a2) in
+    let at_f = same_Some (length w.history) f (first-same (Some (length w.history)) (Some f) a1) in
+    let at_g = same_Some (length w.history) g (first-same (Some (length w.history)) (Some g) a2) in
     answer-same cs one two t f g a b b1 b2 (sym at_f ∙ long) (sym at_g ∙ long) m1 m2
 result-same w session cs one two (Query t) (refused_query f) (refused_query g) long b1 b2 a1 a2 m1 m2 = ap refused_query (refused-once t f g m1 m2)
 result-same w session cs one two (Query t) (answered f a) (refused_query g) long b1 b2 a1 a2 m1 m2 = absurd (never-both t g m1.faultless m2)
@@ -197,7 +179,7 @@ same-from w pre (d ∷ ds) (e ∷ es) order c1 c2 one two h1 h2 v long a1 a2 m1 
     let rest : map step_of ds ≡ map step_of es = cc in
     let session : d.session ≡ e.session = ap (λ (s : Turnstep). s.session) step in
     let place : d.place ≡ e.place = ap (λ (s : Turnstep). s.command) step in
-    let command : d.command ≡ e.command = some-same d.command e.command (sym c1.0 ∙ ap (command_at (commands_in w)) step ∙ c2.0) in
+    let command : d.command ≡ e.command = same_Some d.command e.command (sym c1.0 ∙ ap (command_at (commands_in w)) step ∙ c2.0) in
     let cs = history_of pre in
     let x = answers-parts v (event_of d.session d.command d.result) (events_of ds) a1 in
     let y = answers-parts v (event_of e.session e.command e.result) (events_of es) a2 in

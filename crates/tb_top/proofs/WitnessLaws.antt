@@ -18,6 +18,7 @@ use Rattle.tb_top.specs.Answer.{Answer, answer_of, below, two_names, lines_of}
 use Rattle.tb_top.proofs.CutLaws.{bytes_eq-is}
 use Rattle.tb_top.specs.Pairs.{numbers_of, named, seconds_under, firsts_in, tree_of_names, witness_text}
 use Rattle.tb_top.specs.declared.matching.Match.{Match}
+use Rattle.tb_tree.proofs.lists.Maps.{flat_map-fixed}
 
 -- one witness, offered alone for one edge
 abbrev alone : Witness → Offers
@@ -139,13 +140,6 @@ texts-outer first second (u ∷ us) = with_test (meets (test.Name first) u.node)
         ∙ sym (flat_map-append (same_text first second) (pairs_at second u) (flat_map (pairs_at second) (named first us)))
     with_test false e h = h
 
--- a text once for each item depends on how many items there are
-pub const-length : {X Y : Type 0} (t : List ℕ) (xs : List X) (ys : List Y) → length xs ≡ length ys → flat_map (λ x. t) xs ≡ flat_map (λ y. t) ys
-const-length t [] [] e = refl
-const-length t [] (y ∷ ys) e = absurd (omega arith)
-const-length t (x ∷ xs) [] e = absurd (omega arith)
-const-length t (x ∷ xs) (y ∷ ys) e = ap (λ r. t ++ r) (const-length t xs ys (omega arith))
-
 pub lines-naive : (first second : List ℕ) (root : Plain)
     → lines_of (two_names first second) (naive_witnesses (two_names first second) root) ≡ flat_map (λ w. witness_text first second) (naive_witnesses (two_names first second) root)
 lines-naive first second root = rw (pairs-naive first second root) (texts-outer first second (all_numbered 1 (kid root no_kids)))
@@ -157,5 +151,5 @@ answered first second root found same =
     let witnesses = naive_witnesses (two_names first second) root in
     let many : length found ≡ length witnesses = sym (length-map found numbers_of) ∙ ap length same ∙ length-map witnesses numbers_in in
     let lines : flat_map (λ (m : Match). witness_text first second) found ≡ lines_of (two_names first second) witnesses =
-    const-length (witness_text first second) found witnesses many ∙ sym (lines-naive first second root) in
+    flat_map-fixed (witness_text first second) found witnesses many ∙ sym (lines-naive first second root) in
     ap₂ (λ n l. record { trees = n; lines = l }) many lines

@@ -4,7 +4,7 @@ use Rattle.std.specs.List.{list_all}
 use Rattle.std.proofs.lemmas.Bool.{and_parts, and_right, not-true, false≢true}
 use Rattle.std.proofs.lemmas.List.{take_rest, take_all, take-take, drop_all, drop_more, length-take-le}
 use Rattle.memchr.specs.Find.{Nowhere, NoneBefore, Passes, is_byte}
-use Rattle.tb_tree.proofs.Fronts.{is_other, others-front}
+use Rattle.tb_tree.proofs.lists.Prefixes.{is_other, others-front}
 use Rattle.tb_tree.specs.TextLines.{lines_in, without_return, before_first, begins_with_end, CutsLine}
 
 -- no line ends at the byte

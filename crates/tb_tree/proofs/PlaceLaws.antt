@@ -10,15 +10,8 @@ use Rattle.std.proofs.lemmas.Bool.{lt-ltb, le-ltb}
 use Rattle.tb_tree.specs.Plain.{elem, attr, text, Plains, no_kids, kid}
 use Rattle.tb_tree.specs.Numbers.{counts, all_numbered}
 use Rattle.tb_tree.specs.Places.{IsAncestor, Precedes, Placed, placed_below}
-use Rattle.tb_tree.proofs.Alls.{all-append, all-weaker}
-
--- numbers from a on, one after the other
-range_join : (a m n : ℕ) → range_with_len a m ++ range_with_len (a + m) n ≡ range_with_len a (m + n)
-range_join a zero n = ap₂ range_with_len (omega arith) (omega arith)
-range_join a (suc m) n =
-    let more : a + suc m ≡ a + 1 + m = omega arith in
-    let sum : suc m + n ≡ suc (m + n) = omega arith in
-    rw (more, sum) (ap (λ r. a ∷ r) (range_join (a + 1) m n))
+use Rattle.tb_tree.proofs.lists.Alls.{all-append, all-weaker}
+use Rattle.tb_tree.proofs.lists.Ranges.{range_join}
 
 -- Numbers run without a gap.
 pub numbers-range : (n : ℕ) (ks : Plains) → map (λ x. x.number) (all_numbered n ks) ≡ range_with_len n (counts ks)

@@ -1,13 +1,14 @@
 use Rattle.std.proofs.Common.{◌+◌, sym, ap, ◌∙◌, arith, ◌++◌}
 use Rattle.tb_script.specs.Lines.{whole_lines}
 use Rattle.tb_script.specs.Entries.{load_body, entries}
-use Rattle.tb_script.proofs.BodyLaws.{front_is, front_more, body_more}
+use Rattle.tb_script.proofs.BodyLaws.{front_more, body_more}
 use Rattle.tb_script.proofs.body.load_body.Goals as goal
+use Rattle.tb_tree.proofs.lists.Parts.{prefix_is}
 
 pub lines-preserved : goal.lines-preserved
 lines-preserved c =
     let whole = front_more c.args.bytes.now _ c.lines.rest.now _ c.lines.invariant.joined c.in-Some.ensures in
-    let front = front_is c.args.bytes.now _ c.in-Some.behind.now whole in
+    let front = prefix_is c.args.bytes.now _ c.in-Some.behind.now whole in
     record {
       joined = whole ∙ ap (λ f. f ++ c.in-Some.behind.now) (sym front);
       numbers = omega (arith, c.lines.invariant.numbers, c.in-Some.ensures.shorter);

@@ -4,7 +4,7 @@ use Rattle.std.proofs.lemmas.List.{length_push}
 use Rattle.tb_span.specs.Span.{Span}
 use Rattle.tb_span.specs.Seeds.{label_at}
 use Rattle.tb_stackjoin.specs.Stacks.{IsStack, lasts}
-use Rattle.tb_stackjoin.proofs.Filters.{filter_all, filter_push-no}
+use Rattle.tb_tree.proofs.lists.Filters.{filter_all, filter_push-no}
 use Rattle.tb_stackjoin.proofs.Told.{less-told, less-denied}
 use Rattle.tb_stackjoin.proofs.StackLaws.{all_last, last-same, popped-last, IsStack-pop}
 use Rattle.tb_stackjoin.proofs.stack.pop_ended.Goals as goal

@@ -4,7 +4,7 @@ use Rattle.std.proofs.lemmas.List.Kept.{AllPairs-cons}
 use Rattle.tb_span.specs.Span.{Nests}
 use Rattle.tb_span.specs.Lists.{Nest}
 use Rattle.tb_span.specs.declared.item.Item.{Item}
-use Rattle.tb_stackjoin.proofs.Ranges.{AllPairs-nil, AllPairs-head, AllPairs-tail}
+use Rattle.tb_tree.proofs.lists.Pairs.{AllPairs-nil, AllPairs-head, AllPairs-tail}
 use Rattle.tb_stackjoin.specs.declared.tests.checked.Known.{Known}
 use Rattle.tb_stackjoin.proofs.tests.checked.are_joinable.Goals as goal
 

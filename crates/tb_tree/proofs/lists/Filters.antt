@@ -1,5 +1,5 @@
 -- What filters keep of a list, and of what another filter has kept.
-use Rattle.std.proofs.Common.{◌≡◌, Bool, true, false, cond, List, [], ◌∷◌, ◌++◌, All, filter, map, flat_map, refl, sym, ap, ap₂, ◌∙◌, append-nil}
+use Rattle.std.proofs.Common.{◌≡◌, Bool, true, false, cond, List, [], ◌∷◌, ◌++◌, All, filter, map, refl, sym, ap, ap₂, ◌∙◌, append-nil}
 use Rattle.std.proofs.lemmas.Bool.{cond-true, cond-false, false≢true, false_from_ne_true}
 use Rattle.std.proofs.lemmas.List.Elements.{All-head, All-tail, filter-append}
 
@@ -64,8 +64,3 @@ filter-map f g (x ∷ xs) = by (f (g x)) (filter-map f g xs)
         → cond b (g x ∷ filter f (map g xs)) (filter f (map g xs)) ≡ map g (cond b (x ∷ filter (λ y. f (g y)) xs) (filter (λ y. f (g y)) xs))
     by true same = ap (λ r. g x ∷ r) same
     by false same = same
-
--- two functions that agree on the list
-pub flat_map_same : {X Y : Type 0} (f g : X → List Y) (xs : List X) → All (λ x. f x ≡ g x) xs → flat_map f xs ≡ flat_map g xs
-flat_map_same f g [] h = refl
-flat_map_same f g (x ∷ xs) h = ap₂ (λ a b. a ++ b) (All-head (λ y. f y ≡ g y) x xs h) (flat_map_same f g xs (All-tail (λ y. f y ≡ g y) x xs h))

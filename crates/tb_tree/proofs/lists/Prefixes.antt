@@ -1,7 +1,8 @@
--- The bytes at a front that pass a test.
-use Rattle.std.proofs.Common.{◌≡◌, ℕ, zero, ◌+◌, suc, ◌≤◌, Bool, not, ◌==◌, true, false, cond, List, [], ◌∷◌, ◌++◌, length, take, refl, arith}
+-- The elements in a row at the start of a list that pass a test.
+use Rattle.std.proofs.Common.{◌≡◌, ℕ, zero, suc, ◌+◌, ◌≤◌, Bool, not, ◌==◌, true, false, cond, List, [], ◌∷◌, ◌++◌, length, take, drop, count_by, refl, arith}
 use Rattle.std.specs.List.{prefix_len, list_all}
 use Rattle.std.proofs.lemmas.Bool.{and_parts, and_from, not_from_false, false_from_ne_true}
+use Rattle.std.proofs.lemmas.List.Sums.{sum_by-cons}
 use Rattle.memchr.specs.Find.{Nowhere, Passes, is_byte}
 
 -- the run of bytes that pass ends where one fails
@@ -22,6 +23,31 @@ taken test b bytes false e all = refl
 pub take-prefix_len : (test : ℕ → Bool) (bytes : List ℕ) → list_all test (take (prefix_len test bytes) bytes) ≡ true
 take-prefix_len test [] = refl
 take-prefix_len test (b ∷ bytes) = taken test b bytes (test b) refl (take-prefix_len test bytes)
+
+one_skipped : {X : Type 0} (f g : X → Bool) (x : X) (xs : List X) (passes : Bool) → (passes ≡ true → g x ≡ true)
+    → prefix_len f xs + prefix_len g (drop (prefix_len f xs) xs) ≡ prefix_len g xs
+    → cond passes (1 + prefix_len f xs) 0 + prefix_len g (drop (cond passes (1 + prefix_len f xs) 0) (x ∷ xs)) ≡ prefix_len g (x ∷ xs)
+one_skipped f g x xs true h e =
+    let more : 1 + prefix_len f xs ≡ suc (prefix_len f xs) = omega arith in
+    rw (h refl, more) (omega (arith, e))
+one_skipped f g x xs false h e = omega arith
+
+-- what passes the stronger test, and what passes the weaker one behind it
+pub prefix_skip : {X : Type 0} (f g : X → Bool) → ((x : X) → f x ≡ true → g x ≡ true) → (xs : List X) → prefix_len f xs + prefix_len g (drop (prefix_len f xs) xs) ≡ prefix_len g xs
+prefix_skip f g h [] = refl
+prefix_skip f g h (x ∷ xs) = one_skipped f g x xs (f x) (h x) (prefix_skip f g h xs)
+
+one_counted : {X : Type 0} (f : X → Bool) (xs : List X) (passes : Bool) → prefix_len f xs ≤ count_by f xs → cond passes (1 + prefix_len f xs) 0 ≤ cond passes 1 0 + count_by f xs
+one_counted f xs true h = omega arith
+one_counted f xs false h = omega arith
+
+-- what passes in a row passes
+pub prefix_le_count : {X : Type 0} (f : X → Bool) (xs : List X) → prefix_len f xs ≤ count_by f xs
+prefix_le_count f [] = omega arith
+prefix_le_count f (x ∷ xs) =
+    let split : count_by f (x ∷ xs) ≡ cond (f x) 1 0 + count_by f xs = sum_by-cons (λ y. cond (f y) 1 0) x xs in
+    let one : cond (f x) (1 + prefix_len f xs) 0 ≤ cond (f x) 1 0 + count_by f xs = one_counted f xs (f x) (prefix_le_count f xs) in
+    rw split one
 
 -- another byte than this one
 abbrev pub is_other : ℕ → ℕ → Bool

@@ -1,8 +1,9 @@
--- Ranges of numbers, and lists whose elements stand in a relation pair by pair.
-use Rattle.std.proofs.Common.{◌≡◌, ℕ, zero, suc, ◌+◌, ◌-◌, ◌<◌, ◌≤◌, List, [], ◌∷◌, ◌++◌, All, AllPairs, sym, ap, ap₂, ◌∙◌, arith}
+-- Ranges of numbers.
+use Rattle.std.proofs.Common.{◌≡◌, ℕ, zero, suc, ◌+◌, ◌-◌, ◌<◌, ◌≤◌, ◌∷◌, ◌++◌, [], All, AllPairs, sym, ap, ap₂, ◌∙◌, arith}
 use Rattle.std.specs.List.{range_with_len}
-use Rattle.std.proofs.lemmas.List.Elements.{All-nil, All-cons, All-head, All-tail, All-push}
+use Rattle.std.proofs.lemmas.List.Elements.{All-nil, All-cons}
 use Rattle.std.proofs.lemmas.List.Kept.{AllPairs-cons}
+use Rattle.tb_tree.proofs.lists.Pairs.{AllPairs-nil}
 
 pub range_join : (a m n : ℕ) → range_with_len a m ++ range_with_len (a + m) n ≡ range_with_len a (m + n)
 range_join a zero n = ap₂ range_with_len (omega arith) (omega arith)
@@ -34,23 +35,7 @@ All-range P a zero h = All-nil P
 All-range P a (suc n) h =
     All-cons P a (range_with_len (a + 1) n) (h a (omega arith) (omega arith)) (All-range P (a + 1) n (λ i low high. h i (omega arith) (omega arith)))
 
-pub AllPairs-nil : {X : Type 0} (R : X → X → Type 0) → AllPairs R []
-AllPairs-nil R = λ i j d less within. absurd (omega arith)
-
 pub range_rises : (a n : ℕ) → AllPairs (λ i k. i < k) (range_with_len a n)
 range_rises a zero = AllPairs-nil (λ i k. i < k)
 range_rises a (suc n) =
     AllPairs-cons (λ i k. i < k) a (range_with_len (a + 1) n) (All-range (λ k. a < k) (a + 1) n (λ i low high. omega arith)) (range_rises (a + 1) n)
-
-pub AllPairs-head : {X : Type 0} (R : X → X → Type 0) (x : X) (xs : List X) → AllPairs R (x ∷ xs) → All (R x) xs
-AllPairs-head R x xs h = λ k d within. h zero (suc k) d (omega arith) (omega arith)
-
-pub AllPairs-tail : {X : Type 0} (R : X → X → Type 0) (x : X) (xs : List X) → AllPairs R (x ∷ xs) → AllPairs R xs
-AllPairs-tail R x xs h = λ i j d less within. h (suc i) (suc j) d (omega arith) (omega arith)
-
-pub AllPairs-push : {X : Type 0} (R : X → X → Type 0) (xs : List X) (y : X) → AllPairs R xs → All (λ x. R x y) xs → AllPairs R (xs ++ y ∷ [])
-AllPairs-push R [] y pairs last = AllPairs-cons R y [] (All-nil (R y)) (AllPairs-nil R)
-AllPairs-push R (x ∷ xs) y pairs last =
-    AllPairs-cons R x (xs ++ y ∷ [])
-    (All-push (R x) xs y (AllPairs-head R x xs pairs) (All-head (λ z. R z y) x xs last))
-    (AllPairs-push R xs y (AllPairs-tail R x xs pairs) (All-tail (λ z. R z y) x xs last))
