@@ -1,143 +1,51 @@
 //! The grammar of queries as a value, production by production as docs/FORMATS.md has it but for
-//! `path`. Letters are those that `Lexeme` of `tb_token` tells; a contract holds each against the
-//! grammar there.
+//! `path`. What `MATCH` queries have too stands in `tb_pattern`. A contract holds it against the
+//! grammar of `tb_token`.
 
-use tb_token::Part;
+use tb_pattern::grammar::{
+    AND, AXIS, CLOSE, CMP, COMMA, DOC, LITERAL, MATCH_QUERY, NAME, OPEN, STRING, TEST,
+};
+use tb_token::{Part, letters};
 
-// NAME, or any word in its place
-pub const NAME: Part = Part::One(&[
-    0, 64, 65, 66, 67, 68, 69, 70, 71, 72, 73, 74, 75, 76, 77, 78, 79, 80, 81, 82,
-]);
+const VARIABLE: Part = Part::One(&[letters::VARIABLE]);
 
-const VARIABLE: Part = Part::One(&[1]);
+const SELF_CLOSE: Part = Part::One(&[letters::SELF_CLOSE]);
 
-const NUMBER: Part = Part::One(&[2]);
+const END_TAG: Part = Part::One(&[letters::END_TAG]);
 
-const STRING: Part = Part::One(&[3]);
+const GREATER: Part = Part::One(&[letters::GREATER]);
 
-const TEXT: Part = Part::One(&[4]);
+const EQUAL: Part = Part::One(&[letters::EQUAL]);
 
-const SELF_CLOSE: Part = Part::One(&[9]);
+const ASSIGN: Part = Part::One(&[letters::ASSIGN]);
 
-const END_TAG: Part = Part::One(&[11]);
+const OPEN_BRACE: Part = Part::One(&[letters::OPEN_BRACE]);
 
-const GREATER: Part = Part::One(&[15]);
+const CLOSE_BRACE: Part = Part::One(&[letters::CLOSE_BRACE]);
 
-const BANG: Part = Part::One(&[17]);
+const FOR: Part = Part::One(&[letters::FOR]);
 
-const EQUAL: Part = Part::One(&[18]);
+const LET: Part = Part::One(&[letters::LET]);
 
-const ASSIGN: Part = Part::One(&[19]);
+const IN: Part = Part::One(&[letters::IN]);
 
-const OPEN: Part = Part::One(&[20]);
+const ALLOWING: Part = Part::One(&[letters::ALLOWING]);
 
-const CLOSE: Part = Part::One(&[21]);
+const EMPTY: Part = Part::One(&[letters::EMPTY]);
 
-const OPEN_CONDS: Part = Part::One(&[22]);
+const WHERE: Part = Part::One(&[letters::WHERE]);
 
-const CLOSE_CONDS: Part = Part::One(&[23]);
+const GROUP: Part = Part::One(&[letters::GROUP]);
 
-const OPEN_BRACE: Part = Part::One(&[24]);
+const ORDER: Part = Part::One(&[letters::ORDER]);
 
-const CLOSE_BRACE: Part = Part::One(&[25]);
+const BY: Part = Part::One(&[letters::BY]);
 
-const COMMA: Part = Part::One(&[26]);
+const RETURN: Part = Part::One(&[letters::RETURN]);
 
-const AT: Part = Part::One(&[27]);
+const AGG: Part = Part::One(&[letters::COUNT, letters::SUM, letters::MIN, letters::MAX]);
 
-const STAR: Part = Part::One(&[28]);
-
-const MINUS: Part = Part::One(&[29]);
-
-const FOR: Part = Part::One(&[64]);
-
-const LET: Part = Part::One(&[65]);
-
-const IN: Part = Part::One(&[66]);
-
-const ALLOWING: Part = Part::One(&[67]);
-
-const EMPTY: Part = Part::One(&[68]);
-
-const WHERE: Part = Part::One(&[69]);
-
-const AND: Part = Part::One(&[70]);
-
-const GROUP: Part = Part::One(&[71]);
-
-const ORDER: Part = Part::One(&[72]);
-
-const BY: Part = Part::One(&[73]);
-
-const RETURN: Part = Part::One(&[76]);
-
-const MATCH: Part = Part::One(&[77]);
-
-const DOCUMENT: Part = Part::One(&[78]);
-
-const AXIS: Part = Part::One(&[10, 8]);
-
-const MARK: Part = Part::One(&[29, 31, 30, 28]);
-
-const CMP: Part = Part::One(&[18, 16, 13, 12, 15, 14]);
-
-const AGG: Part = Part::One(&[79, 80, 81, 82]);
-
-const DIRECTION: Part = Part::One(&[74, 75]);
-
-// doc = DOCUMENT "(" STRING ")"
-const DOC: Part = Part::Both(&DOCUMENT, &Part::Both(&OPEN, &Part::Both(&STRING, &CLOSE)));
-
-// "@" ( NAME | "*" )
-const ATTRIBUTE: Part = Part::Both(&AT, &Part::Either(&NAME, &STAR));
-
-// test = NAME | "*" | "@" ( NAME | "*" ) | TEXT
-const TEST: Part = Part::Either(
-    &NAME,
-    &Part::Either(&STAR, &Part::Either(&ATTRIBUTE, &TEXT)),
-);
-
-// literal = STRING | [ "-" ] NUMBER
-const LITERAL: Part = Part::Either(&STRING, &Part::Both(&Part::Maybe(&MINUS), &NUMBER));
-
-// cmp literal
-const ONE_COND: Part = Part::Both(&CMP, &LITERAL);
-
-// conds = "[" cmp literal { AND cmp literal } "]"
-const CONDS: Part = Part::Both(
-    &OPEN_CONDS,
-    &Part::Both(
-        &Part::Both(&ONE_COND, &Part::Many(&Part::Both(&AND, &ONE_COND))),
-        &CLOSE_CONDS,
-    ),
-);
-
-// edges = "(" and the rest of the edges, which is rule 0
-const EDGES: Part = Part::Opened(&[20], 0);
-
-// edge = axis mark test [ conds ] [ "!" ] [ edges ]
-const EDGE: Part = Part::Both(
-    &AXIS,
-    &Part::Both(
-        &MARK,
-        &Part::Both(
-            &TEST,
-            &Part::Both(
-                &Part::Maybe(&CONDS),
-                &Part::Both(&Part::Maybe(&BANG), &Part::Maybe(&EDGES)),
-            ),
-        ),
-    ),
-);
-
-// edge { "," edge } ")"
-pub const EDGES_REST: Part = Part::Both(
-    &Part::Both(&EDGE, &Part::Many(&Part::Both(&COMMA, &EDGE))),
-    &CLOSE,
-);
-
-// match = MATCH doc edges
-const MATCH_QUERY: Part = Part::Both(&MATCH, &Part::Both(&DOC, &EDGES));
+const DIRECTION: Part = Part::One(&[letters::ASCENDING, letters::DESCENDING]);
 
 // step = axis test
 const STEP: Part = Part::Both(&AXIS, &TEST);
@@ -212,7 +120,7 @@ const ORDER_PART: Part = Part::Both(
 );
 
 // cons = "<" and the rest of the constructor, which is rule 1
-const CONS: Part = Part::Opened(&[13], 1);
+const CONS: Part = Part::Opened(&[letters::LESS], 1);
 
 // "{" operand "}"
 const BRACED: Part = Part::Both(&OPEN_BRACE, &Part::Both(&OPERAND, &CLOSE_BRACE));

@@ -5,8 +5,9 @@ ghost use Rattle.tb_token.specs.grammar.Queries.{rules, query};
 ghost use Rattle.tb_token.specs.reading.Calls.{Says};
 ghost use Rattle.tb_flwor.specs.Calls.{FirstWrong};
 
-use crate::grammar::{CONS_REST, EDGES_REST, NAME, QUERY};
+use crate::grammar::{CONS_REST, QUERY};
 use std::alloc::{AllocError, Global};
+use tb_pattern::grammar::{EDGES_REST, NAME};
 use tb_token::{Grammar, Lexeme, first_wrong};
 
 /// The number, from 1, of the first token that begins no query with those before it, or one more than

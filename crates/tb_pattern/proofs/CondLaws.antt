@@ -14,13 +14,12 @@ use Rattle.tb_token.specs.grammar.Terminals.{word, sign, number, string}
 use Rattle.tb_token.specs.grammar.Patterns.{cmp, literal, conds}
 use Rattle.tb_token.specs.grammar.Queries.{rules}
 use Rattle.tb_token.specs.declared.lexer.token.Kind.TheVariants as kind
-use Rattle.tb_pattern.specs.Reading.{one_cond}
 use Rattle.tb_pattern.specs.Letters.{signs_of, cmp_letters}
 use Rattle.tb_pattern.specs.Faults.{is_none, literal_in}
 use Rattle.tb_pattern.specs.Letters.{is_sign}
 use Rattle.tb_pattern.specs.Value.{bytes_in, inside, op_of, literal_of, conds_from, more_conds_of, conds_of}
 use Rattle.tb_pattern.specs.Building.{next, begins, Come, IsBuilt, Builds, BuildsApart}
-use Rattle.tb_pattern.specs.BuiltParts.{number_or_zero, IsLiteral, IsCond, AreConds}
+use Rattle.tb_pattern.specs.BuiltParts.{number_or_zero, one_cond, IsLiteral, IsCond, AreConds}
 use Rattle.tb_pattern.specs.declared.cond.Cond.{Cond}
 use Rattle.tb_pattern.specs.declared.cond.Literal.{Literal}
 use Rattle.tb_pattern.specs.declared.cond.Literal.TheVariants as a

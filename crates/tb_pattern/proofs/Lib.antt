@@ -1,5 +1,4 @@
 pub mod Views
-pub mod ReadingLaws
 pub mod SyntaxLaws
 pub mod ValueLaws
 pub mod BuildingLaws

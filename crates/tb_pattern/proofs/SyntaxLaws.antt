@@ -1,67 +1,56 @@
--- The reading of the tokens that are left is that of them all, and ends where they are wrong.
-use Rattle.std.proofs.Common.{◌≡◌, ℕ, ◌+◌, ◌-◌, ◌<◌, ◌≤◌, true, false, cond, List, [], ◌∷◌, length, drop, get_or, Some, None, refl, sym, ap, ◌∙◌, arith, length-drop}
-use Rattle.std.proofs.lemmas.List.{drop_more, drop_all}
-use Rattle.std.specs.Option.{option_map}
+-- What is read by the value of the grammar is a `MATCH` query: of the rules of queries it calls the first alone.
+use Rattle.std.proofs.Common.{◌≡◌, ℕ, zero, suc, Bool, true, false, ◌==◌, List, [], ◌∷◌, Option, Some, None, refl, nat_eq}
+use Rattle.std.specs.Prelude.{Result, Ok, Err, IfOk, IsTrue}
 use Rattle.tb_token.specs.grammar.Grammar.{Tok}
-use Rattle.tb_token.specs.grammar.Words.{IsWrongAt}
-use Rattle.tb_token.specs.grammar.Reading.{read, after}
-use Rattle.tb_token.proofs.grammar.ReadLaws.{read-word, read-wrong}
-use Rattle.tb_token.specs.grammar.Patterns.{match_query}
+use Rattle.tb_token.specs.grammar.Decided.{is_decided, is_easy, AreGood}
+use Rattle.tb_token.proofs.grammar.LetterLaws.{none-true}
+use Rattle.tb_token.proofs.grammar.RuleLaws.{calls, Agree, word-by, wrong-by}
+use Rattle.tb_token.specs.grammar.Terminals.{name}
+use Rattle.tb_token.specs.grammar.Patterns.{edges_rest, match_query}
 use Rattle.tb_token.specs.grammar.Queries.{rules, follow}
-use Rattle.tb_token.proofs.grammar.QueryLaws.{readable}
-use Rattle.tb_pattern.specs.Reading.{start, step, may_end, parts_of}
-use Rattle.tb_pattern.specs.Syntax.{FirstWrong}
-use Rattle.tb_pattern.proofs.ReadingLaws.{parts-step, parts-end}
-use Rattle.tb_pattern.specs.declared.reading.Reading.{Reading}
+use Rattle.tb_token.specs.reading.View.{part_of, rules_of}
+use Rattle.tb_token.specs.reading.Calls.{FirstWrong, Says, IsRead}
+use Rattle.tb_token.specs.declared.reader.part.Grammar.{Grammar}
+use Rattle.tb_pattern.specs.Syntax.{match_rules}
 
--- how the reading stands before the token of a place
-pub record Going (s : List Tok) (at : ℕ) (r : Reading) : Type 0 where
-  pub depth : r.depth ≤ at
-  pub on : read rules (drop at s) (Some (parts_of r)) ≡ read rules s (Some (match_query ∷ []))
+pub says-match : (g : Grammar) → part_of g.start.now ≡ match_query → rules_of g 0 ≡ edges_rest → ((n : ℕ) → rules_of g (suc n) ≡ name) → Says g match_rules match_query
+says-match g start first others = record { each_rule = each; start_is = start }
+  where
+    each : (n : ℕ) → rules_of g n ≡ match_rules n
+    each zero = first
+    each (suc n) = others n
 
-pub going-start : (s : List Tok) → Going s 0 start
-going-start s = record { depth = omega arith; on = refl }
+match-decided : (n : ℕ) → is_decided follow (follow n) (match_rules n) ≡ true
+match-decided zero = refl
+match-decided (suc zero) = refl
+match-decided (suc (suc n)) = refl
 
-module _ (s : List Tok) where
-  abbrev Wrong : ℕ → Type 0
-  Wrong k = IsWrongAt rules (match_query ∷ []) s k
+match-easy : (n : ℕ) → is_easy (match_rules n) ≡ true
+match-easy zero = refl
+match-easy (suc n) = refl
 
-  wrong-at : (left k : ℕ) → read rules s (Some (match_query ∷ [])) ≡ Some left → left ≤ length s → length s + 1 ≡ k + left → Wrong k
-  wrong-at left k e few size =
-      let same : length s - left + 1 ≡ k = omega arith in
-      rw same at (read-wrong rules follow readable.good s (match_query ∷ []) left readable.matches e)
+match-good : AreGood match_rules follow
+match-good = record { decided = match-decided; easy = match-easy }
 
-  module _ (at : ℕ) (r : Reading) (going : Going s at r) (within : at < length s) (t : Tok) (is : t ≡ get_or s at t) where
-    here : drop at s ≡ t ∷ drop (at + 1) s
-    here = drop_more s at t within ∙ ap (λ u. u ∷ drop (at + 1) s) (sym is)
+abbrev is_first : ℕ → Bool
+is_first zero = true
+is_first (suc n) = false
 
-    read-here : read rules (drop (at + 1) s) (after rules (parts_of r) t.letter) ≡ read rules s (Some (match_query ∷ []))
-    read-here = rw here at going.on
+same-rules : (n : ℕ) → is_first n ≡ true → match_rules n ≡ rules n
+same-rules zero is = refl
+same-rules (suc n) is = none-true false refl is
 
-    pub going-next : (next : Reading) (x : ℕ) → x ≡ t.letter → step r x ≡ Some next → next.depth ≤ r.depth + 1 → Going s (at + 1) next
-    going-next next x same e deep = record {
-      depth = let depth = going.depth in omega arith;
-      on = let parts = sym (parts-step r.place r x) ∙ ap (λ o. option_map parts_of o) e in rw (← same, parts) at read-here;
-    }
+first-calls : (n : ℕ) → is_first n ≡ true → calls is_first (match_rules n) ≡ true
+first-calls zero is = refl
+first-calls (suc n) is = none-true false refl is
 
-    pub wrong-here : (x : ℕ) → x ≡ t.letter → step r x ≡ None → Wrong (at + 1)
-    wrong-here x same e =
-        let parts : after rules (parts_of r) t.letter ≡ None = rw same at (sym (parts-step r.place r x) ∙ ap (λ o. option_map parts_of o) e) in
-        let size = ap length here in
-        let found : read rules s (Some (match_query ∷ [])) ≡ Some (1 + length (drop (at + 1) s)) =
-        sym read-here ∙ ap (λ o. read rules (drop (at + 1) s) o) parts in
-        wrong-at (1 + length (drop (at + 1) s)) (at + 1) found (omega (arith, length-drop at s)) (omega (arith, length-drop at s))
+agree : Agree is_first match_rules rules
+agree = record { same = same-rules; within = first-calls }
 
-  module _ (at : ℕ) (r : Reading) (going : Going s at r) (past : length s ≤ at) where
-    read-end : read rules [] (Some (parts_of r)) ≡ read rules s (Some (match_query ∷ []))
-    read-end = rw (drop_all at s past) at going.on
+match-read : (s : List Tok) (wrong : Option ℕ) → FirstWrong match_rules match_query s wrong → FirstWrong rules match_query s wrong
+match-read s None word = word-by is_first match_rules rules agree (match_query ∷ []) (refl, tt) s word
+match-read s (Some k) wrong = wrong-by is_first match_rules rules agree (match_query ∷ []) (refl, tt) s k wrong
 
-    pub word-end : may_end r ≡ true → FirstWrong s None
-    word-end e =
-        let ends = sym (parts-end r.place r.depth) ∙ e in
-        read-word rules follow readable.good s (match_query ∷ []) (sym read-end ∙ ap (λ b. cond b None (Some 0)) ends)
-
-    pub wrong-end : may_end r ≡ false → Wrong (length s + 1)
-    wrong-end e =
-        let ends = sym (parts-end r.place r.depth) ∙ e in
-        wrong-at 0 (length s + 1) (sym read-end ∙ ap (λ b. cond b None (Some 0)) ends) (omega arith) (omega arith)
+pub if-read : {E : Type 0} (o : Result (Option ℕ) E) (g : Grammar) (s : List Tok) → IfOk o (IsRead g s) → Says g match_rules match_query → IfOk o (FirstWrong rules match_query s)
+if-read (Ok wrong) g s read says = match-read s wrong (read match_rules match_query says follow match-good (refl, tt))
+if-read (Err f) g s read says = read

@@ -1,9 +1,9 @@
 -- Which trees the values that the program builds stand for, part by part.
 use Rattle.std.specs.Prelude.{◌≡◌, ℕ, Bool, false, List, [], ◌∷◌, codes, pos}
 use Rattle.std.specs.Option.{unwrap_or}
-use Rattle.tb_token.specs.grammar.Grammar.{Tok, Part, either}
+use Rattle.tb_token.specs.grammar.Grammar.{Tok, Part, both, either}
 use Rattle.tb_token.specs.grammar.Words.{Tree, pair, first, second}
-use Rattle.tb_token.specs.grammar.Patterns.{match_query}
+use Rattle.tb_token.specs.grammar.Patterns.{cmp, literal, match_query}
 use Rattle.tb_token.specs.grammar.Terminals.{sign, name}
 use Rattle.tb_tree.specs.declared.node_test.Test.{Test}
 use Rattle.tb_pattern.specs.Faults.{literal_in}
@@ -14,7 +14,7 @@ use Rattle.tb_pattern.specs.Value.{edges_from, edges_behind, edges_in, AskFor}
 use Rattle.tb_pattern.specs.Building.{Come}
 use Rattle.tb_pattern.specs.declared.cond.Cond.{Cond}
 use Rattle.tb_pattern.specs.declared.cond.Literal.{Literal}
-use Rattle.tb_pattern.specs.declared.cond.Literal.TheVariants as literal
+use Rattle.tb_pattern.specs.declared.cond.Literal.TheVariants as a
 use Rattle.tb_pattern.specs.declared.pattern.Edge.{Edge}
 use Rattle.tb_pattern.specs.declared.pattern.Pattern.{Pattern}
 
@@ -31,7 +31,11 @@ IsTest is v = test_of v ≡ is
 
 -- a number behind its sign, or 0 where it is past its range
 abbrev pub number_or_zero : Bool → List ℕ → Literal
-number_or_zero minus digits = literal.Number (unwrap_or (literal_in minus digits) (pos 0))
+number_or_zero minus digits = a.Number (unwrap_or (literal_in minus digits) (pos 0))
+
+-- cmp literal
+abbrev pub one_cond : Part
+one_cond = both cmp literal
 
 abbrev pub IsLiteral : Literal → Tree → Type 0
 IsLiteral is v = literal_of v ≡ is

@@ -7,7 +7,6 @@ pub mod Witness
 pub mod WitnessTree
 pub mod Letters
 pub mod Syntax
-pub mod Reading
 pub mod Faults
 pub mod Value
 pub mod Building

@@ -5,7 +5,7 @@ ghost use Rattle.tb_pattern.specs.Calls.{Tested};
 
 use crate::PatternFault;
 use crate::limits::{first_past, is_too_nested, tests_in};
-use crate::syntax::first_wrong;
+use crate::syntax::first_wrong_match;
 use std::alloc::Global;
 use tb_token::Lexeme;
 
@@ -14,7 +14,7 @@ pub fn check_match(alloc: Global, tokens: &[Lexeme]) -> Result<(), PatternFault>
     requires { length tokens.now ≤ 65536 }
     ensures { Tested tokens.now result }
 {
-    if let Some(number) = first_wrong(tokens) {
+    if let Some(number) = first_wrong_match(alloc, tokens)? {
         return Err(PatternFault::Syntax(number));
     }
     if is_too_nested(tokens) {

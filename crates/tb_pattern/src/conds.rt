@@ -2,9 +2,9 @@
 
 ghost use Rattle.std.specs.Prelude.{◌≡◌, ◌≤◌, IfOk, length};
 ghost use Rattle.tb_token.specs.grammar.Grammar.{maybe};
-ghost use Rattle.tb_pattern.specs.Reading.{one_cond};
 ghost use Rattle.tb_pattern.specs.Building.{Builds, BuildsApart, next};
-ghost use Rattle.tb_pattern.specs.BuiltParts.{AreConds, IsCond, IsLiteral, number_or_zero};
+ghost use Rattle.tb_pattern.specs.BuiltParts.{AreConds, IsCond, IsLiteral};
+ghost use Rattle.tb_pattern.specs.BuiltParts.{number_or_zero, one_cond};
 ghost use Rattle.tb_pattern.specs.Value.{bytes_in};
 ghost use Rattle.tb_token.specs.grammar.Patterns as part;
 

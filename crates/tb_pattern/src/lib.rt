@@ -11,12 +11,12 @@ mod cond;
 pub mod conds;
 mod fault;
 pub mod front;
+pub mod grammar;
 mod letter;
 pub mod limits;
 pub mod node_test;
 mod pattern;
 mod query;
-mod reading;
 mod syntax;
 mod witness;
 

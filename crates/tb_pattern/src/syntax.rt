@@ -1,26 +1,38 @@
 //! Where tokens stop being a `MATCH` query.
 
-ghost use Rattle.std.specs.Prelude.{◌≤◌, length};
-ghost use Rattle.tb_pattern.specs.Syntax.{FirstWrong};
+ghost use Rattle.std.specs.Prelude.{◌≤◌, IfOk, length};
+ghost use Rattle.tb_token.specs.grammar.Patterns.{match_query};
+ghost use Rattle.tb_token.specs.grammar.Queries.{rules};
+ghost use Rattle.tb_token.specs.reading.Calls.{FirstWrong, Says};
+ghost use Rattle.tb_pattern.specs.Syntax.{match_rules};
 
-use crate::reading::Reading;
-use tb_token::Lexeme;
+use crate::grammar::{EDGES_REST, MATCH_QUERY, NAME};
+use std::alloc::{AllocError, Global};
+use tb_token::{Grammar, Lexeme, first_wrong};
 
 /// The number, from 1, of the first token that begins no `MATCH` query with those before it, or one
 /// more than there are. `None` for a query. Brackets inside each other cost no calls.
-pub fn first_wrong(tokens: &[Lexeme]) -> Option<u32>
+pub fn first_wrong_match(alloc: Global, tokens: &[Lexeme]) -> Result<Option<u32>, AllocError>
     requires { length tokens.now ≤ 65536 }
-    ensures { FirstWrong tokens.now result }
+    ensures { IfOk result (FirstWrong rules match_query tokens.now) }
 {
-    let mut reading = Reading::start();
-    'tokens: for (at, token) in tokens.iter().enumerate() {
-        let Some(next) = reading.after(token.letter) else {
-            return Some(at as u32 + 1);
-        };
-        reading = next;
-    }
-    if reading.may_end() {
-        return None;
-    }
-    Some(tokens.len() as u32 + 1)
+    let grammar = Grammar {
+        start: &MATCH_QUERY,
+        rules: &[&EDGES_REST],
+        other: &NAME,
+    };
+    first_wrong_by(alloc, &grammar, tokens)
+}
+
+/// The same by a grammar that is that of `MATCH` queries.
+fn first_wrong_by(
+    alloc: Global,
+    grammar: &Grammar,
+    tokens: &[Lexeme],
+) -> Result<Option<u32>, AllocError>
+    requires short { length tokens.now ≤ 65536 }
+    requires says { Says grammar.now match_rules match_query }
+    ensures { IfOk result (FirstWrong rules match_query tokens.now) }
+{
+    first_wrong(alloc, grammar, tokens)
 }

@@ -2,6 +2,7 @@ pub mod LetterLaws
 pub mod StartLaws
 pub mod WordLaws
 pub mod ReadLaws
+pub mod RuleLaws
 pub mod TreeLaws
 pub mod PlaceLaws
 pub mod WorkedRows

@@ -70,6 +70,8 @@ pub const IN: u8 = 66;
 
 pub const ALLOWING: u8 = 67;
 
+pub const EMPTY: u8 = 68;
+
 pub const WHERE: u8 = 69;
 
 pub const AND: u8 = 70;
@@ -77,6 +79,8 @@ pub const AND: u8 = 70;
 pub const GROUP: u8 = 71;
 
 pub const ORDER: u8 = 72;
+
+pub const BY: u8 = 73;
 
 pub const ASCENDING: u8 = 74;
 
@@ -95,6 +99,12 @@ pub const SUM: u8 = 80;
 pub const MIN: u8 = 81;
 
 pub const MAX: u8 = 82;
+
+/// A name, and each word, `FOR` to `MAX`, which may stand where a name does. They are written as
+/// numbers, since a grammar copies the list at each name, and has room for so many expressions.
+pub const NAMES: &[u8] = &[
+    0, 64, 65, 66, 67, 68, 69, 70, 71, 72, 73, 74, 75, 76, 77, 78, 79, 80, 81, 82,
+];
 
 /// Whether the letter is among these.
 pub fn has(letters: &[u8], letter: u8) -> bool
