@@ -8,6 +8,7 @@ use Rattle.tb_token.specs.grammar.Terminals.{word, sign, variable, list_of, comm
 use Rattle.tb_token.specs.grammar.Paths.{longpath}
 use Rattle.tb_token.specs.grammar.Queries.{bind, clause}
 use Rattle.tb_token.specs.declared.lexer.token.Kind.TheVariants as kind
+use Rattle.tb_token.specs.tokens.LetterNames as letters
 use Rattle.tb_pattern.specs.Value.{bytes_in, is_there}
 use Rattle.tb_pattern.specs.Building.{next, begins, Builds}
 use Rattle.tb_pattern.proofs.BuildingLaws.{one-builds, Both, both-builds, builds-as, First, Second, first-builds, second-builds, put_in-builds, left_out-builds}
@@ -25,7 +26,7 @@ abbrev word_letter : List ℕ → List ℕ
 word_letter text = letter_of kind.Word text ∷ []
 
 abbrev variable_letter : List ℕ
-variable_letter = letter_of kind.Variable [] ∷ []
+variable_letter = letters.VARIABLE ∷ []
 
 -- [ ALLOWING EMPTY ]
 
@@ -74,7 +75,7 @@ module _ (names : Names) where
   other_bind = both comma bind
 
   abbrev comma_letter : List ℕ
-  comma_letter = letter_of kind.Sign (codes ",") ∷ []
+  comma_letter = letters.COMMA ∷ []
 
   abbrev pub put : List Clause → List Clause → List Clause
   put found behind = found ++ behind
@@ -139,12 +140,12 @@ module _ (names : Names) where
         (both-builds (word (codes "LET")) (both variable (both (sign (codes ":=")) longpath)) (Next s) Named s (drop 1 s) left (one-builds (word_letter (codes "LET")) s)
         (both-builds variable (both (sign (codes ":=")) longpath) (Next (drop 1 s)) Assigned (drop 1 s) (drop 1 (drop 1 s)) left (one-builds variable_letter (drop 1 s))
         (both-builds (sign (codes ":=")) longpath (Next (drop 1 (drop 1 s))) (IsLongpath names path_is) (drop 1 (drop 1 s)) (drop 1 (drop 1 (drop 1 s))) left
-        (one-builds (letter_of kind.Sign (codes ":=") ∷ []) (drop 1 (drop 1 s))) longpath_is))))
+        (one-builds (letters.ASSIGN ∷ []) (drop 1 (drop 1 s))) longpath_is))))
 
   -- { clause }
 
   abbrev clause_letters : List ℕ
-  clause_letters = letter_of kind.Word (codes "FOR") ∷ letter_of kind.Word (codes "LET") ∷ []
+  clause_letters = letters.FOR ∷ letters.LET ∷ []
 
   abbrev pub ClausesSoFar : List Clause → List Clause → List Tok → List Tok → Type 0
   ClausesSoFar = SoFar clause put (more_clauses names)

@@ -5,13 +5,11 @@ use Rattle.tb_token.specs.grammar.Grammar.{Tok, Part, both, either, maybe, many,
 use Rattle.tb_token.specs.grammar.Words.{Tree, leaf, nothing, pair, second, by_one, by_both, by_second}
 use Rattle.tb_token.specs.grammar.Reading.{own_starts}
 use Rattle.tb_token.proofs.grammar.PlaceLaws.{read-both, read-second, read-one}
-use Rattle.tb_token.specs.tokens.Letters.{letter_of}
 use Rattle.tb_token.specs.grammar.Terminals.{word, list_of}
 use Rattle.tb_token.specs.grammar.Patterns.{cmp, literal}
 use Rattle.tb_token.specs.grammar.Paths.{operand}
 use Rattle.tb_token.specs.grammar.Queries.{rules, cond, where_part}
-use Rattle.tb_token.specs.declared.lexer.token.Kind.TheVariants as kind
-use Rattle.tb_pattern.specs.Letters.{cmp_letters}
+use Rattle.tb_token.specs.tokens.LetterNames as letters
 use Rattle.tb_pattern.specs.Value.{op_of}
 use Rattle.tb_pattern.specs.Building.{next, begins, Come, IsBuilt, Builds, BuildsApart}
 use Rattle.tb_pattern.specs.BuiltParts.{IsLiteral}
@@ -63,11 +61,11 @@ module _ (names : Names) where
 
   with-builds : (is : Right) (s left : List Tok) → BuildsApart (either operand literal) (IsRight names is) (drop 1 s) left → Builds with (Compared s is) s left
   with-builds is [] left right_is ps minus come = some-none come.parts
-  with-builds is (t ∷ u) left right_is ps minus come = by (has cmp_letters t.letter) refl
+  with-builds is (t ∷ u) left right_is ps minus come = by (has letters.COMPARISONS t.letter) refl
     where
-      by : (here : Bool) → has cmp_letters t.letter ≡ here → IsBuilt with (Compared (t ∷ u) is) ps (t ∷ u) left
+      by : (here : Bool) → has letters.COMPARISONS t.letter ≡ here → IsBuilt with (Compared (t ∷ u) is) ps (t ∷ u) left
       by true h =
-          let reads = read-both rules cmp (either operand literal) (t ∷ u) ps ∙ read-one rules cmp_letters t u (either operand literal ∷ ps) h in
+          let reads = read-both rules cmp (either operand literal) (t ∷ u) ps ∙ read-one rules letters.COMPARISONS t u (either operand literal ∷ ps) h in
           let behind = come-next minus (with ∷ ps) (either operand literal ∷ ps) t u come reads in
           let apart : Come false (either operand literal ∷ ps) u = rw (cmp-minus t.letter h) at behind in
           let b = right_is ps apart in
@@ -78,7 +76,7 @@ module _ (names : Names) where
             is = record { one = leaf t; two = b.tree; pair_is = refl; one_is = refl; two_is = b.is };
             derived = λ vs d. by_both (by_one h (b.derived vs d));
           }
-      by false h = wrong-letter cmp_letters t u (either operand literal ∷ ps) h (sym (read-both rules cmp (either operand literal) (t ∷ u) ps) ∙ come.parts)
+      by false h = wrong-letter letters.COMPARISONS t u (either operand literal ∷ ps) h (sym (read-both rules cmp (either operand literal) (t ∷ u) ps) ∙ come.parts)
 
   -- a comparison of these
   abbrev compared : Operand → List Tok → Right → Comparison
@@ -95,10 +93,10 @@ module _ (names : Names) where
   -- Conditions behind the word WHERE.
 
   abbrev and_letter : List ℕ
-  and_letter = letter_of kind.Word (codes "AND") ∷ []
+  and_letter = letters.AND ∷ []
 
   abbrev where_letter : List ℕ
-  where_letter = letter_of kind.Word (codes "WHERE") ∷ []
+  where_letter = letters.WHERE ∷ []
 
   abbrev other_cond : Part
   other_cond = both (word (codes "AND")) cond

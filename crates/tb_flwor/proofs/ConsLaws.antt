@@ -8,7 +8,7 @@ use Rattle.tb_token.specs.grammar.Terminals.{sign, name, string}
 use Rattle.tb_token.specs.grammar.Paths.{path}
 use Rattle.tb_token.specs.grammar.Results.{cons, braced, attr, piece, cons_rest, back}
 use Rattle.tb_token.specs.declared.lexer.token.Kind.TheVariants as kind
-use Rattle.tb_pattern.specs.Letters.{name_letters}
+use Rattle.tb_token.specs.tokens.LetterNames as letters
 use Rattle.tb_pattern.specs.Value.{bytes_in}
 use Rattle.tb_pattern.specs.Building.{next, begins, Builds}
 use Rattle.tb_pattern.proofs.BuildingLaws.{one-builds, Both, both-builds, builds-as, First, Second, first-builds, second-builds, Opened, rule-builds}
@@ -33,7 +33,7 @@ abbrev letter : List ℕ → List ℕ
 letter text = letter_of kind.Sign text ∷ []
 
 abbrev path_letters : List ℕ
-path_letters = letter_of kind.Word (codes "DOCUMENT") ∷ letter_of kind.Variable [] ∷ []
+path_letters = letters.DOCUMENT ∷ letters.VARIABLE ∷ []
 
 -- what was found, with one more and what is behind
 abbrev parts_before : List part.Part → PlainParts → PlainParts
@@ -62,7 +62,7 @@ module _ (names : Names) where
     attr-builds content_is =
         builds-as attr (Both (Next s) From) (Gives (attr_from names) attr_is) s left
         (λ v b behind. ap (λ x. attr_from names x behind) (b.pair_is ∙ ap (λ x. pair b.one x) b.two_is.pair_is) ∙ rw (b.one_is, b.two_is.two_is) refl)
-        (both-builds name (both (sign (codes "=")) (either string braced)) (Next s) From s (drop 1 s) left (one-builds name_letters s)
+        (both-builds name (both (sign (codes "=")) (either string braced)) (Next s) From s (drop 1 s) left (one-builds letters.NAMES s)
         (both-builds (sign (codes "=")) (either string braced) (Next (drop 1 s)) (IsContent names is) (drop 1 s) (drop 1 (drop 1 s)) left (one-builds (letter (codes "=")) (drop 1 s)) content_is))
 
   abbrev put : List AttrPart → List AttrPart → List AttrPart
@@ -71,7 +71,7 @@ module _ (names : Names) where
   abbrev pub AttrsSoFar : List AttrPart → List Tok → List Tok → Type 0
   AttrsSoFar found s left = SoFar attr put (attrs_of names) [] found s left
 
-  pub attrs-next : (found : List AttrPart) (is : AttrPart) (s mid left : List Tok) → begins name_letters mid ≡ true → AttrsSoFar found s mid
+  pub attrs-next : (found : List AttrPart) (is : AttrPart) (s mid left : List Tok) → begins letters.NAMES mid ≡ true → AttrsSoFar found s mid
       → Builds attr (Gives (attr_from names) is) mid left → length left ≤ length mid - 1 → AttrsSoFar (found ++ is ∷ []) s left
   attrs-next found is s mid left e far gives shorter =
       far-next attr put (attrs_of names) [] found (found ++ is ∷ []) s mid left refl e far
@@ -79,16 +79,16 @@ module _ (names : Names) where
       (λ v g w. ap (λ x. found ++ x) (g (attrs_of names w)) ∙ sym (append_assoc found (is ∷ []) (attrs_of names w))) gives)
       (omega arith)
 
-  pub attrs-first : (is : AttrPart) (s left : List Tok) → begins name_letters s ≡ true → Builds attr (Gives (attr_from names) is) s left → length left ≤ length s - 1
+  pub attrs-first : (is : AttrPart) (s left : List Tok) → begins letters.NAMES s ≡ true → Builds attr (Gives (attr_from names) is) s left → length left ≤ length s - 1
       → AttrsSoFar (is ∷ []) s left
   attrs-first is s left e gives shorter = attrs-next [] is s s left e (far-start attr put (attrs_of names) [] s) gives shorter
 
-  pub attrs-end : (found : List AttrPart) (s left : List Tok) → begins name_letters left ≡ false → AttrsSoFar found s left → Builds (many attr) (AreAttrs names found) s left
+  pub attrs-end : (found : List AttrPart) (s left : List Tok) → begins letters.NAMES left ≡ false → AttrsSoFar found s left → Builds (many attr) (AreAttrs names found) s left
   attrs-end found s left e far =
       builds-as (many attr) (λ v. attrs_of names v ≡ found ++ []) (AreAttrs names found) s left (λ v f. f ∙ append-nil found)
       (run-end attr put (attrs_of names) [] found s left e far.built)
 
-  pub attrs-none : (s : List Tok) → begins name_letters s ≡ false → Builds (many attr) (AreAttrs names []) s s
+  pub attrs-none : (s : List Tok) → begins letters.NAMES s ≡ false → Builds (many attr) (AreAttrs names []) s s
   attrs-none s e = builds-as (many attr) (λ v. v ≡ nothing) (AreAttrs names []) s s (λ v f. ap (attrs_of names) f) (many-none attr s e)
 
   -- Parts.
@@ -97,7 +97,7 @@ module _ (names : Names) where
   PartsSoFar found s left = SoFar piece parts_before (parts_in names) [] found s left
 
   abbrev piece_letters : List ℕ
-  piece_letters = letter_of kind.Sign (codes "<") ∷ letter_of kind.Quoted [] ∷ letter_of kind.Sign (codes "{") ∷ []
+  piece_letters = letters.LESS ∷ letters.QUOTED ∷ letters.OPEN_BRACE ∷ []
 
   pub parts-next : (found : List part.Part) (is : part.Part) (s mid left : List Tok) → begins piece_letters mid ≡ true → PartsSoFar found s mid
       → Builds piece (IsPart names is) mid left → length left ≤ length mid - 1 → PartsSoFar (found ++ is ∷ []) s left
@@ -182,7 +182,7 @@ module _ (names : Names) where
         (both-builds (sign (codes ">")) (both (many piece) (both (sign (codes "</")) (both name (sign (codes ">"))))) (Next s) Behind s (drop 1 s) (drop 1 m2) (one-builds (letter (codes ">")) s)
         (both-builds (many piece) (both (sign (codes "</")) (both name (sign (codes ">")))) (AreParts names are) Tag (drop 1 s) mid (drop 1 m2) parts_are
         (both-builds (sign (codes "</")) (both name (sign (codes ">"))) (Next mid) (Both (Next m1) (Next m2)) mid m1 (drop 1 m2) (one-builds (letter (codes "</")) mid)
-        (both-builds name (sign (codes ">")) (Next m1) (Next m2) m1 m2 (drop 1 m2) (one-builds name_letters m1) (one-builds (letter (codes ">")) m2))))))
+        (both-builds name (sign (codes ">")) (Next m1) (Next m2) m1 m2 (drop 1 m2) (one-builds letters.NAMES m1) (one-builds (letter (codes ">")) m2))))))
 
   -- A whole constructor behind its `<`.
 
@@ -200,7 +200,7 @@ module _ (names : Names) where
         let a = b.two_is in
         cons_of-Cons (bytes_in (next s)) attrs_are parts_are ∙ rw (← b.one_is, ← a.one_is) refl ∙ a.two_is b.one a.one
         ∙ sym (ap (cons_behind names) (b.pair_is ∙ ap (λ x. pair b.one x) a.pair_is)))
-        (both-builds name (both (many attr) inside) (Next s) Attrs s (drop 1 s) left (one-builds name_letters s)
+        (both-builds name (both (many attr) inside) (Next s) Attrs s (drop 1 s) left (one-builds letters.NAMES s)
         (both-builds (many attr) inside (AreAttrs names attrs_are) (AreInside names parts_are) (drop 1 s) mid left attrs_is inside_is))
 
   -- What stands behind RETURN.

@@ -3,11 +3,10 @@ use Rattle.std.proofs.Common.{◌≡◌, ℕ, List, [], ◌∷◌, drop, sym, ap
 use Rattle.std.specs.Prelude.{codes}
 use Rattle.tb_token.specs.grammar.Grammar.{Tok, Part, both, maybe, many}
 use Rattle.tb_token.specs.grammar.Words.{Tree, pair}
-use Rattle.tb_token.specs.tokens.Letters.{letter_of}
 use Rattle.tb_token.specs.grammar.Terminals.{word}
 use Rattle.tb_token.specs.grammar.Queries.{clause, where_part, group, order, flwor}
 use Rattle.tb_token.specs.grammar.Results.{back}
-use Rattle.tb_token.specs.declared.lexer.token.Kind.TheVariants as kind
+use Rattle.tb_token.specs.tokens.LetterNames as letters
 use Rattle.tb_pattern.specs.Building.{next, Builds}
 use Rattle.tb_pattern.proofs.BuildingLaws.{one-builds, Both, both-builds, builds-as}
 use Rattle.tb_query.specs.declared.query.Flwor as query
@@ -19,7 +18,7 @@ abbrev Next : List Tok → Tree → Type 0
 Next s v = v ≡ next s
 
 abbrev return_letter : List ℕ
-return_letter = letter_of kind.Word (codes "RETURN") ∷ []
+return_letter = letters.RETURN ∷ []
 
 module _ (names : Names) (q : query.Flwor) (s l1 l2 l3 l4 l5 : List Tok) (clauses_are : BuildsClauses names q.clauses s l1) where
   abbrev returned : Part

@@ -8,6 +8,7 @@ use Rattle.tb_token.specs.grammar.Terminals.{sign, string}
 use Rattle.tb_token.specs.grammar.Paths.{agg, operand, path}
 use Rattle.tb_token.specs.grammar.Results.{braced}
 use Rattle.tb_token.specs.declared.lexer.token.Kind.TheVariants as kind
+use Rattle.tb_token.specs.tokens.LetterNames as letters
 use Rattle.tb_pattern.specs.Value.{bytes_in, inside}
 use Rattle.tb_pattern.specs.Building.{next, begins, Builds}
 use Rattle.tb_pattern.proofs.BuildingLaws.{one-builds, Both, both-builds, builds-as, First, Second, first-builds, second-builds}
@@ -26,15 +27,15 @@ abbrev letter : List ℕ → List ℕ
 letter text = letter_of kind.Sign text ∷ []
 
 abbrev path_letters : List ℕ
-path_letters = letter_of kind.Word (codes "DOCUMENT") ∷ letter_of kind.Variable [] ∷ []
+path_letters = letters.DOCUMENT ∷ letters.VARIABLE ∷ []
 
 abbrev agg_letters : List ℕ
 agg_letters =
-    letter_of kind.Word (codes "COUNT") ∷ letter_of kind.Word (codes "SUM") ∷ letter_of kind.Word (codes "MIN")
-    ∷ letter_of kind.Word (codes "MAX") ∷ []
+    letters.COUNT ∷ letters.SUM ∷ letters.MIN
+    ∷ letters.MAX ∷ []
 
 abbrev quote_letter : List ℕ
-quote_letter = letter_of kind.Quoted [] ∷ []
+quote_letter = letters.QUOTED ∷ []
 
 module _ (names : Names) (s left : List Tok) where
   abbrev closed : Part

@@ -8,6 +8,7 @@ use Rattle.tb_token.specs.grammar.Terminals.{word, sign, variable, list_of, comm
 use Rattle.tb_token.specs.grammar.Paths.{operand, path}
 use Rattle.tb_token.specs.grammar.Queries.{group, key, order}
 use Rattle.tb_token.specs.declared.lexer.token.Kind.TheVariants as kind
+use Rattle.tb_token.specs.tokens.LetterNames as letters
 use Rattle.tb_pattern.specs.Value.{bytes_in}
 use Rattle.tb_pattern.specs.Building.{next, begins, Builds}
 use Rattle.tb_pattern.proofs.BuildingLaws.{one-builds, Both, both-builds, builds-as, put_in-builds, left_out-builds}
@@ -26,19 +27,19 @@ abbrev word_letter : List ℕ → List ℕ
 word_letter text = letter_of kind.Word text ∷ []
 
 abbrev variable_letter : List ℕ
-variable_letter = letter_of kind.Variable [] ∷ []
+variable_letter = letters.VARIABLE ∷ []
 
 -- [ ASCENDING | DESCENDING ]
 
 abbrev direction_letters : List ℕ
-direction_letters = letter_of kind.Word (codes "ASCENDING") ∷ letter_of kind.Word (codes "DESCENDING") ∷ []
+direction_letters = letters.ASCENDING ∷ letters.DESCENDING ∷ []
 
 swapped : (x y : ℕ) → (x == y) ≡ (y == x || false)
 swapped x y = grind arith
 
 turned-next : (s : List Tok) → is_word (codes "DESCENDING") (next s) ≡ begins (word_letter (codes "DESCENDING")) s
 turned-next [] = refl
-turned-next (t ∷ u) = swapped t.letter (letter_of kind.Word (codes "DESCENDING"))
+turned-next (t ∷ u) = swapped t.letter letters.DESCENDING
 
 pub turned-there : (s : List Tok) → begins direction_letters s ≡ true → Builds (maybe direction) (IsTurned (begins (word_letter (codes "DESCENDING")) s)) s (drop 1 s)
 turned-there s e =
@@ -87,7 +88,7 @@ module _ (names : Names) where
         (both-builds (word (codes "GROUP")) (both (word (codes "BY")) (both variable (both (sign (codes ":=")) path))) (Next s) By s s1 left (one-builds (word_letter (codes "GROUP")) s)
         (both-builds (word (codes "BY")) (both variable (both (sign (codes ":=")) path)) (Next s1) Named s1 s2 left (one-builds (word_letter (codes "BY")) s1)
         (both-builds variable (both (sign (codes ":=")) path) (Next s2) Assigned s2 s3 left (one-builds variable_letter s2)
-        (both-builds (sign (codes ":=")) path (Next s3) (IsPath names path_is) s3 (drop 1 s3) left (one-builds (letter_of kind.Sign (codes ":=") ∷ []) s3) path_builds)))))
+        (both-builds (sign (codes ":=")) path (Next s3) (IsPath names path_is) s3 (drop 1 s3) left (one-builds (letters.ASSIGN ∷ []) s3) path_builds)))))
 
   pub group-none : (s : List Tok) → begins (word_letter (codes "GROUP")) s ≡ false → Builds (maybe group) (IsGroup names None) s s
   group-none s e = builds-as (maybe group) (λ v. v ≡ nothing) (IsGroup names None) s s (λ v f. ap (group_of names) f) (left_out-builds group s e)
@@ -102,7 +103,7 @@ module _ (names : Names) where
       (both-builds operand (maybe direction) (IsOperand names o) (IsTurned turned) s mid left operand_is turned_is)
 
   abbrev comma_letter : List ℕ
-  comma_letter = letter_of kind.Sign (codes ",") ∷ []
+  comma_letter = letters.COMMA ∷ []
 
   abbrev other_key : Part
   other_key = both comma key

@@ -8,8 +8,8 @@ use Rattle.tb_token.specs.grammar.Terminals.{word, sign, string, variable}
 use Rattle.tb_token.specs.grammar.Patterns.{doc, axis, test}
 use Rattle.tb_token.specs.grammar.Paths.{step, steps, longpath, path}
 use Rattle.tb_token.specs.declared.lexer.token.Kind.TheVariants as kind
+use Rattle.tb_token.specs.tokens.LetterNames as letters
 use Rattle.tb_tree.specs.declared.node_test.Test.{Test}
-use Rattle.tb_pattern.specs.Letters.{axis_letters}
 use Rattle.tb_pattern.specs.Value.{bytes_in, inside, axis_of}
 use Rattle.tb_pattern.specs.Building.{next, begins, Builds}
 use Rattle.tb_pattern.specs.BuiltParts.{IsTest}
@@ -30,7 +30,7 @@ pub step-builds : (s left : List Tok) (is : Test) → Builds test (IsTest is) (d
 step-builds s left is test_is =
     builds-as step (Both (Next s) (IsTest is)) (Gives step_from (record { axis = axis_of (next s); test = is })) s left
     (λ v b behind. ap (λ x. step_from x behind) b.pair_is ∙ rw (b.one_is, b.two_is) refl)
-    (both-builds axis test (Next s) (IsTest is) s (drop 1 s) left (one-builds axis_letters s) test_is)
+    (both-builds axis test (Next s) (IsTest is) s (drop 1 s) left (one-builds letters.AXES s) test_is)
 
 -- { step }, behind the first
 
@@ -46,12 +46,12 @@ step-adds found is s left gives =
 abbrev pub StepsSoFar : List Step → List Step → List Tok → List Tok → Type 0
 StepsSoFar = SoFar step put more_steps
 
-pub steps-next : (old found : List Step) (is : Step) (s mid left : List Tok) → begins axis_letters mid ≡ true → StepsSoFar old found s mid
+pub steps-next : (old found : List Step) (is : Step) (s mid left : List Tok) → begins letters.AXES mid ≡ true → StepsSoFar old found s mid
     → Builds step (Gives step_from is) mid left → length left ≤ length mid - 1 → StepsSoFar old (found ++ is ∷ []) s left
 steps-next old found is s mid left e far gives shorter =
     far-next step put more_steps old found (found ++ is ∷ []) s mid left refl e far (step-adds found is mid left gives) (omega arith)
 
-pub steps-end : (is : Step) (found : List Step) (s mid left : List Tok) → begins axis_letters left ≡ false → Builds step (Gives step_from is) s mid
+pub steps-end : (is : Step) (found : List Step) (s mid left : List Tok) → begins letters.AXES left ≡ false → Builds step (Gives step_from is) s mid
     → StepsSoFar (is ∷ []) found mid left → Builds steps (AreSteps found) s left
 steps-end is found s mid left e gives far =
     builds-as steps (Both (Gives step_from is) (λ v. is ∷ more_steps v ≡ found ++ [])) (AreSteps found) s left
@@ -66,10 +66,10 @@ steps-more (leaf t) are is = is
 steps-more (first v) are is = is
 steps-more (second v) are is = is
 
-pub more-there : (are : List Step) (s left : List Tok) → begins axis_letters s ≡ true → Builds steps (AreSteps are) s left → Builds (many step) (AreMore are) s left
+pub more-there : (are : List Step) (s left : List Tok) → begins letters.AXES s ≡ true → Builds steps (AreSteps are) s left → Builds (many step) (AreMore are) s left
 more-there are s left e is = many-built step (AreSteps are) (AreMore are) s left refl e (λ v. steps-more v are) is
 
-pub more-none : (s : List Tok) → begins axis_letters s ≡ false → Builds (many step) (AreMore []) s s
+pub more-none : (s : List Tok) → begins letters.AXES s ≡ false → Builds (many step) (AreMore []) s s
 more-none s e = builds-as (many step) (λ v. v ≡ nothing) (AreMore []) s s (λ v f. ap more_steps f) (many-none step s e)
 
 -- Where a path starts.
@@ -78,7 +78,7 @@ abbrev letter : List ℕ → List ℕ
 letter text = letter_of kind.Sign text ∷ []
 
 abbrev doc_letter : List ℕ
-doc_letter = letter_of kind.Word (codes "DOCUMENT") ∷ []
+doc_letter = letters.DOCUMENT ∷ []
 
 module _ (s : List Tok) where
   abbrev s1 : List Tok
@@ -106,10 +106,10 @@ module _ (s : List Tok) where
       ∙ ap (λ x. inside (bytes_in x)) b.two_is.two_is.one_is)
       (both-builds (word (codes "DOCUMENT")) (both (sign (codes "(")) (both string (sign (codes ")")))) (Next s) Open s s1 (drop 1 s3) (one-builds doc_letter s)
       (both-builds (sign (codes "(")) (both string (sign (codes ")"))) (Next s1) Close s1 s2 (drop 1 s3) (one-builds (letter (codes "(")) s1)
-      (both-builds string (sign (codes ")")) (Next s2) (Next s3) s2 s3 (drop 1 s3) (one-builds (letter_of kind.Quoted [] ∷ []) s2) (one-builds (letter (codes ")")) s3))))
+      (both-builds string (sign (codes ")")) (Next s2) (Next s3) s2 s3 (drop 1 s3) (one-builds (letters.QUOTED ∷ []) s2) (one-builds (letter (codes ")")) s3))))
 
 abbrev variable_letter : List ℕ
-variable_letter = letter_of kind.Variable [] ∷ []
+variable_letter = letters.VARIABLE ∷ []
 
 -- the variable of the next token
 abbrev pub Var : Names → List Tok → Start

@@ -8,7 +8,7 @@ use Rattle.tb_token.proofs.grammar.PlaceLaws.{read-both, read-first, read-second
 use Rattle.tb_token.proofs.grammar.LetterLaws.{none-true}
 use Rattle.tb_token.specs.grammar.Queries.{rules}
 use Rattle.tb_pattern.specs.Faults.{is_past, past_behind}
-use Rattle.tb_pattern.specs.Letters.{is_sign}
+use Rattle.tb_token.specs.tokens.LetterNames.{is_sign}
 use Rattle.tb_pattern.specs.Building.{next, begins, Come, IsBuilt, Builds}
 
 -- the reading of a list that ends too early, or of a token that is wrong, is no whole one

@@ -8,15 +8,13 @@ use Rattle.tb_token.proofs.grammar.PlaceLaws.{read-both, read-second, read-put_i
 use Rattle.tb_token.proofs.grammar.LetterLaws.{none-true}
 use Rattle.tb_number.specs.IntText.{signed, number_of}
 use Rattle.tb_number.specs.Range.{is_in_range, within_range}
-use Rattle.tb_token.specs.tokens.Letters.{letter_of}
 use Rattle.tb_token.specs.tokens.Kinds.{is_number}
 use Rattle.tb_token.specs.grammar.Terminals.{word, sign, number, string}
 use Rattle.tb_token.specs.grammar.Patterns.{cmp, literal, conds}
 use Rattle.tb_token.specs.grammar.Queries.{rules}
-use Rattle.tb_token.specs.declared.lexer.token.Kind.TheVariants as kind
-use Rattle.tb_pattern.specs.Letters.{signs_of, cmp_letters}
 use Rattle.tb_pattern.specs.Faults.{is_none, literal_in}
-use Rattle.tb_pattern.specs.Letters.{is_sign}
+use Rattle.tb_token.specs.tokens.LetterNames.{is_sign}
+use Rattle.tb_token.specs.tokens.LetterNames as letters
 use Rattle.tb_pattern.specs.Value.{bytes_in, inside, op_of, literal_of, conds_from, more_conds_of, conds_of}
 use Rattle.tb_pattern.specs.Building.{next, begins, Come, IsBuilt, Builds, BuildsApart}
 use Rattle.tb_pattern.specs.BuiltParts.{number_or_zero, one_cond, IsLiteral, IsCond, AreConds}
@@ -60,34 +58,34 @@ IsNumber minus s v = a.Number (signed minus (number_of (bytes_in v))) ≡ number
 
 number-built : (minus : Bool) (s : List Tok) (ps : List Part) → Come minus (number ∷ ps) s → IsBuilt number (IsNumber minus s) ps s (drop 1 s)
 number-built minus [] ps come = some-none come.parts
-number-built minus (t ∷ u) ps come = by (has (letter_of kind.Number [] ∷ []) t.letter) refl
+number-built minus (t ∷ u) ps come = by (has (letters.NUMBER ∷ []) t.letter) refl
   where
-    by : (is : Bool) → has (letter_of kind.Number [] ∷ []) t.letter ≡ is → IsBuilt number (IsNumber minus (t ∷ u)) ps (t ∷ u) u
+    by : (is : Bool) → has (letters.NUMBER ∷ []) t.letter ≡ is → IsBuilt number (IsNumber minus (t ∷ u)) ps (t ∷ u) u
     by true h =
-        let letter = one-letter (letter_of kind.Number []) t.letter h in
+        let letter = one-letter letters.NUMBER t.letter h in
         let fits : is_none (literal_in minus t.bytes) ≡ false = rw letter at (numbers-next minus t u come.numbers).0 in
         record {
           minus = is_sign (codes "-") t.letter;
-          behind = come-next minus (number ∷ ps) ps t u come (read-one rules (letter_of kind.Number [] ∷ []) t u ps h);
+          behind = come-next minus (number ∷ ps) ps t u come (read-one rules (letters.NUMBER ∷ []) t u ps h);
           tree = leaf t;
           is = number-same minus t.bytes (come.digits.0 letter) fits;
           derived = λ vs d. by_one h d;
         }
-    by false h = wrong-letter (letter_of kind.Number [] ∷ []) t u ps h come.parts
+    by false h = wrong-letter (letters.NUMBER ∷ []) t u ps h come.parts
 
 -- Literals.
 
 abbrev quote_letter : List ℕ
-quote_letter = letter_of kind.Quoted [] ∷ []
+quote_letter = letters.QUOTED ∷ []
 
 abbrev minus_letter : List ℕ
-minus_letter = signs_of (codes "-" ∷ [])
+minus_letter = letters.MINUS ∷ []
 
 abbrev signed_part : Part
 signed_part = both (maybe (sign (codes "-"))) number
 
 abbrev and_letter : List ℕ
-and_letter = letter_of kind.Word (codes "AND") ∷ []
+and_letter = letters.AND ∷ []
 
 abbrev Next : List Tok → Tree → Type 0
 Next s v = v ≡ next s
@@ -102,7 +100,7 @@ pub literal-minus : (s : List Tok) → begins quote_letter s ≡ false → begin
     → Builds literal (IsLiteral (number_or_zero true (bytes_in (next (drop 1 s))))) s (drop 1 (drop 1 s))
 literal-minus [] e f ps minus come = false-true f
 literal-minus (t ∷ u) e f ps minus come =
-    let letter = one-letter (letter_of kind.Sign (codes "-")) t.letter f in
+    let letter = one-letter letters.MINUS t.letter f in
     let reads = read-second rules string signed_part t u ps e ∙ read-both rules (maybe (sign (codes "-"))) number (t ∷ u) ps
     ∙ read-put_in rules (sign (codes "-")) t u (number ∷ ps) f ∙ read-one rules minus_letter t u (number ∷ ps) f in
     let behind = come-next minus (literal ∷ ps) (number ∷ ps) t u come reads in
@@ -134,24 +132,24 @@ literal-plain (t ∷ u) e f ps come =
 -- Conditions.
 
 -- no comparison is a `-`
-pub cmp-minus : (x : ℕ) → has cmp_letters x ≡ true → is_sign (codes "-") x ≡ false
+pub cmp-minus : (x : ℕ) → has letters.COMPARISONS x ≡ true → is_sign (codes "-") x ≡ false
 cmp-minus x h = by (is_sign (codes "-") x) refl
   where
     by : (is : Bool) → is_sign (codes "-") x ≡ is → is ≡ false
     by true e =
-        let same = eqb-true x (letter_of kind.Sign (codes "-")) e in
-        let none : has cmp_letters (letter_of kind.Sign (codes "-")) ≡ true = rw same at h in
+        let same = eqb-true x letters.MINUS e in
+        let none : has letters.COMPARISONS letters.MINUS ≡ true = rw same at h in
         false-true none
     by false e = refl
 
 pub cond-builds : (s left : List Tok) (with : Literal) → BuildsApart literal (IsLiteral with) (drop 1 s) left
     → Builds one_cond (IsCond (record { op = op_of (next s); with = with })) s left
 cond-builds [] left with is ps minus come = some-none come.parts
-cond-builds (t ∷ u) left with is ps minus come = by (has cmp_letters t.letter) refl
+cond-builds (t ∷ u) left with is ps minus come = by (has letters.COMPARISONS t.letter) refl
   where
-    by : (here : Bool) → has cmp_letters t.letter ≡ here → IsBuilt one_cond (IsCond (record { op = op_of (leaf t); with = with })) ps (t ∷ u) left
+    by : (here : Bool) → has letters.COMPARISONS t.letter ≡ here → IsBuilt one_cond (IsCond (record { op = op_of (leaf t); with = with })) ps (t ∷ u) left
     by true h =
-        let reads = read-both rules cmp literal (t ∷ u) ps ∙ read-one rules cmp_letters t u (literal ∷ ps) h in
+        let reads = read-both rules cmp literal (t ∷ u) ps ∙ read-one rules letters.COMPARISONS t u (literal ∷ ps) h in
         let behind = come-next minus (one_cond ∷ ps) (literal ∷ ps) t u come reads in
         let apart : Come false (literal ∷ ps) u = rw (cmp-minus t.letter h) at behind in
         let b = is ps apart in
@@ -162,7 +160,7 @@ cond-builds (t ∷ u) left with is ps minus come = by (has cmp_letters t.letter)
           is = λ others. ap (λ w. record { op = op_of (leaf t); with = w } ∷ others) b.is;
           derived = λ vs d. by_both (by_one h (b.derived vs d));
         }
-    by false h = wrong-letter cmp_letters t u (literal ∷ ps) h (sym (read-both rules cmp literal (t ∷ u) ps) ∙ come.parts)
+    by false h = wrong-letter letters.COMPARISONS t u (literal ∷ ps) h (sym (read-both rules cmp literal (t ∷ u) ps) ∙ come.parts)
 
 -- so much of the list behind the first token is built
 pub record CondsSoFar (found : List Cond) (s left : List Tok) : Type 0 where
@@ -184,10 +182,10 @@ conds-next found c s mid left e so_far is shorter = record {
 }
 
 abbrev opening : List ℕ
-opening = signs_of (codes "[" ∷ [])
+opening = letters.OPEN_CONDS ∷ []
 
 abbrev closing : List ℕ
-closing = signs_of (codes "]" ∷ [])
+closing = letters.CLOSE_CONDS ∷ []
 
 abbrev inner : Part
 inner = both one_cond (many (both (word (codes "AND")) one_cond))

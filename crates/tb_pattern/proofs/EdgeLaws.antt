@@ -3,12 +3,10 @@ use Rattle.std.proofs.Common.{◌≡◌, ℕ, Bool, true, false, ◌≤◌, List
 use Rattle.std.specs.Prelude.{codes}
 use Rattle.tb_token.specs.grammar.Grammar.{Tok, Part, both, maybe, many}
 use Rattle.tb_token.specs.grammar.Words.{Tree, nothing, pair}
-use Rattle.tb_token.specs.tokens.Letters.{letter_of}
 use Rattle.tb_token.specs.grammar.Terminals.{sign, comma}
 use Rattle.tb_token.specs.grammar.Patterns.{axis, mark, test, conds, edges, edge, edges_rest}
-use Rattle.tb_token.specs.declared.lexer.token.Kind.TheVariants.{Sign}
+use Rattle.tb_token.specs.tokens.LetterNames as letters
 use Rattle.tb_tree.specs.declared.node_test.Test.{Test}
-use Rattle.tb_pattern.specs.Letters.{signs_of, axis_letters, mark_letters}
 use Rattle.tb_pattern.specs.Plain.{PlainEdges, no_edges}
 use Rattle.tb_pattern.specs.Value.{is_there, axis_of, mark_of, edges_from, more_edges_in, edges_behind, edges_in}
 use Rattle.tb_pattern.specs.View.{edge_of, edges_of}
@@ -25,7 +23,7 @@ abbrev Next : List Tok → Tree → Type 0
 Next s v = v ≡ next s
 
 abbrev bang_letter : List ℕ
-bang_letter = signs_of (codes "!" ∷ [])
+bang_letter = letters.BANG ∷ []
 
 pub whole-there : (s : List Tok) → begins bang_letter s ≡ true → Builds (maybe bang) (IsWhole true) s (drop 1 s)
 whole-there [] e = false-true e
@@ -73,8 +71,8 @@ module _ (s t_left c_left w_left left : List Tok) (is_test : Test) (are_conds : 
       → Builds (maybe bang) (IsWhole is_whole) c_left w_left → Builds (maybe edges) (AreBelow are_below) w_left left → Builds edge (IsEdge built) s left
   edge-builds t_is c_is w_is b_is =
       builds-as edge (Both (Next s) Marks) (IsEdge built) s left edge-is
-      (both-builds axis (both mark (both test (both (maybe conds) (both (maybe bang) (maybe edges))))) (Next s) Marks s (drop 1 s) left (one-builds axis_letters s)
-      (both-builds mark (both test (both (maybe conds) (both (maybe bang) (maybe edges)))) (Next (drop 1 s)) Tests (drop 1 s) (drop 1 (drop 1 s)) left (one-builds mark_letters (drop 1 s))
+      (both-builds axis (both mark (both test (both (maybe conds) (both (maybe bang) (maybe edges))))) (Next s) Marks s (drop 1 s) left (one-builds letters.AXES s)
+      (both-builds mark (both test (both (maybe conds) (both (maybe bang) (maybe edges)))) (Next (drop 1 s)) Tests (drop 1 s) (drop 1 (drop 1 s)) left (one-builds letters.MARKS (drop 1 s))
       (both-builds test (both (maybe conds) (both (maybe bang) (maybe edges))) (IsTest is_test) Conds (drop 1 (drop 1 s)) t_left left t_is
       (both-builds (maybe conds) (both (maybe bang) (maybe edges)) (AreConds are_conds) Whole t_left c_left left c_is
       (both-builds (maybe bang) (maybe edges) (IsWhole is_whole) (AreBelow are_below) c_left w_left left w_is b_is)))))
@@ -90,7 +88,7 @@ before-all [] = refl
 before-all (f ∷ fs) = ap (λ es. put (edge_of f) es) (before-all fs)
 
 abbrev comma_letter : List ℕ
-comma_letter = letter_of Sign (codes ",") ∷ []
+comma_letter = letters.COMMA ∷ []
 
 -- so much of the list is built
 pub record EdgesSoFar (found : List Edge) (s left : List Tok) : Type 0 where
@@ -112,7 +110,7 @@ edges-next found e s mid left is_comma so_far is shorter = record {
 }
 
 abbrev closing : List ℕ
-closing = signs_of (codes ")" ∷ [])
+closing = letters.CLOSE ∷ []
 
 abbrev inner : Part
 inner = both edge (many (both comma edge))
@@ -125,7 +123,7 @@ edges-end found s left e so_far =
     (list-end comma_letter edge edges_from more_edges_in (λ behind. edges_before found behind) s left e so_far.built) (one-builds closing left))
 
 abbrev opening : List ℕ
-opening = signs_of (codes "(" ∷ [])
+opening = letters.OPEN ∷ []
 
 pub rest-builds : (found : List Edge) (s left : List Tok) → Builds edges_rest (AreEdges found) (drop 1 s) left → Builds edges (AreBelow found) s left
 rest-builds found s left is =

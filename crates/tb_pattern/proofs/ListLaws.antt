@@ -8,7 +8,7 @@ use Rattle.tb_token.proofs.grammar.PlaceLaws.{read-both, read-one_more, read-no_
 use Rattle.tb_token.proofs.grammar.LetterLaws.{none-true}
 use Rattle.tb_token.specs.grammar.Queries.{rules}
 use Rattle.tb_token.specs.grammar.Terminals.{list_of}
-use Rattle.tb_pattern.specs.Letters.{is_sign}
+use Rattle.tb_token.specs.tokens.LetterNames.{is_sign}
 use Rattle.tb_pattern.specs.Building.{begins, Come, IsBuilt, Builds}
 use Rattle.tb_pattern.proofs.BuildingLaws.{come-next}
 

@@ -8,12 +8,13 @@ use Rattle.tb_tree.specs.declared.node_test.Test.TheVariants.{Name}
 use Rattle.tb_token.specs.grammar.Grammar.{Tok, Part, both, maybe, many, has}
 use Rattle.tb_token.specs.grammar.Words.{Tree, leaf, nothing, pair, first, second, Derives, at_end, by_one, by_both, by_first, by_second, left_out, put_in, no_more, one_more, by_rule}
 use Rattle.tb_token.proofs.grammar.LetterLaws.{none-true, apart-none}
-use Rattle.tb_token.specs.tokens.Letters.{letter_of}
-use Rattle.tb_token.specs.declared.lexer.token.Kind.TheVariants.{Sign}
 use Rattle.tb_token.specs.grammar.Terminals.{comma}
 use Rattle.tb_token.specs.grammar.Patterns.{edges, edge, match_query}
 use Rattle.tb_token.specs.grammar.Queries.{rules}
-use Rattle.tb_pattern.specs.Faults.{open_behind, nests_past, letters_of, is_too_nested}
+use Rattle.tb_token.specs.tokens.LetterNames.{letters_of}
+use Rattle.tb_token.specs.tokens.LetterNames as letters
+use Rattle.tb_token.specs.tokens.Nesting as nesting
+use Rattle.tb_pattern.specs.Faults.{is_too_nested}
 use Rattle.tb_pattern.specs.declared.pattern.Mark.TheVariants.{One}
 use Rattle.tb_pattern.specs.Plain.{matching, PlainEdges, no_edges, edge as edge_to, levels}
 use Rattle.tb_pattern.specs.Value.{edges_in, more_edges_in, edges_from, pattern_of, AskFor}
@@ -43,6 +44,12 @@ leaves-derived (no_more d) = leaves-derived d
 leaves-derived (one_more d) = leaves-derived d
 leaves-derived (by_rule {t = t} h d) = ap (λ xs. t.letter ∷ xs) (leaves-derived d)
 
+abbrev open_behind : ℕ → ℕ → ℕ
+open_behind = nesting.open_behind (letters.OPEN ∷ []) (letters.CLOSE ∷ [])
+
+abbrev nests_past : ℕ → List ℕ → Bool
+nests_past = nesting.nests_past (letters.OPEN ∷ []) (letters.CLOSE ∷ [])
+
 -- the most brackets that are open at once, where so many are before the letters
 abbrev most_open : ℕ → List ℕ → ℕ
 most_open depth [] = depth
@@ -63,20 +70,23 @@ most-from depth [] = omega arith
 most-from depth (x ∷ xs) = omega arith
 
 abbrev brackets : List ℕ
-brackets = letter_of Sign (codes "(") ∷ letter_of Sign (codes ")") ∷ []
+brackets = letters.OPEN ∷ letters.CLOSE ∷ []
+
+only-letter : (c x : ℕ) → has (c ∷ []) x ≡ true → x ≡ c
+only-letter c x is = by (c == x) refl is
+  where
+    by : (same : Bool) → (c == x) ≡ same → (same || false) ≡ true → x ≡ c
+    by true e same = sym (eqb-true c x e)
+    by false e same = none-true false refl same
 
 -- a letter that is no bracket opens and closes none
 none-behind : (depth x : ℕ) → has brackets x ≡ false → open_behind depth x ≡ depth
-none-behind depth x none = by (x == letter_of Sign (codes "(")) (x == letter_of Sign (codes ")")) refl refl
+none-behind depth x none = by (has (letters.OPEN ∷ []) x) (has (letters.CLOSE ∷ []) x) refl refl
   where
-    by : (opens closes : Bool) → (x == letter_of Sign (codes "(")) ≡ opens → (x == letter_of Sign (codes ")")) ≡ closes
+    by : (opens closes : Bool) → has (letters.OPEN ∷ []) x ≡ opens → has (letters.CLOSE ∷ []) x ≡ closes
         → cond opens (depth + 1) (cond closes (depth - 1) depth) ≡ depth
-    by true closes e f =
-        let same = eqb-true x (letter_of Sign (codes "(")) e in
-        none-true (has brackets x) none (ap (has brackets) same)
-    by false true e f =
-        let same = eqb-true x (letter_of Sign (codes ")")) f in
-        none-true (has brackets x) none (ap (has brackets) same)
+    by true closes e f = none-true (has brackets x) none (ap (has brackets) (only-letter letters.OPEN x e))
+    by false true e f = none-true (has brackets x) none (ap (has brackets) (only-letter letters.CLOSE x f))
     by false false e f = refl
 
 quiet-letter : (depth x : ℕ) (rest : List ℕ) → has brackets x ≡ false → most_open depth (x ∷ rest) ≡ most_open depth rest
@@ -100,20 +110,13 @@ quiet-open of_none e depth rest = refl
 quiet-open (of_more {w = w} f g) e depth rest = quiet-open f e depth (leaves w rest) ∙ quiet-open g e depth rest
 quiet-open (of_rule h f) e depth rest = none-true false refl e
 
-only-letter : (c x : ℕ) → has (c ∷ []) x ≡ true → x ≡ c
-only-letter c x is = by (c == x) refl is
-  where
-    by : (same : Bool) → (c == x) ≡ same → (same || false) ≡ true → x ≡ c
-    by true e same = sym (eqb-true c x e)
-    by false e same = none-true false refl same
+letter-opens : (depth x : ℕ) (rest : List ℕ) → has (letters.OPEN ∷ []) x ≡ true → most_open depth (x ∷ rest) ≡ max depth (most_open (depth + 1) rest)
+letter-opens depth x rest is = ap (λ y. most_open depth (y ∷ rest)) (only-letter letters.OPEN x is)
 
-letter-opens : (depth x : ℕ) (rest : List ℕ) → has (letter_of Sign (codes "(") ∷ []) x ≡ true → most_open depth (x ∷ rest) ≡ max depth (most_open (depth + 1) rest)
-letter-opens depth x rest is = ap (λ y. most_open depth (y ∷ rest)) (only-letter (letter_of Sign (codes "(")) x is)
-
-letter-closes : (depth x : ℕ) (rest : List ℕ) → has (letter_of Sign (codes ")") ∷ []) x ≡ true → most_open (depth + 1) (x ∷ rest) ≡ max (depth + 1) (most_open depth rest)
+letter-closes : (depth x : ℕ) (rest : List ℕ) → has (letters.CLOSE ∷ []) x ≡ true → most_open (depth + 1) (x ∷ rest) ≡ max (depth + 1) (most_open depth rest)
 letter-closes depth x rest is =
     let back : depth + 1 - 1 ≡ depth = omega arith in
-    ap (λ y. most_open (depth + 1) (y ∷ rest)) (only-letter (letter_of Sign (codes ")")) x is)
+    ap (λ y. most_open (depth + 1) (y ∷ rest)) (only-letter letters.CLOSE x is)
     ∙ ap (λ n. max (depth + 1) (most_open n rest)) back
 
 edge-levels : {v : Tree} → Of edge v → (behind : PlainEdges) → 1 ≤ levels (edges_from v behind)

@@ -10,7 +10,8 @@ use Rattle.tb_token.specs.grammar.Terminals.{word, sign, string}
 use Rattle.tb_token.specs.grammar.Patterns.{doc, edges, edges_rest, match_query}
 use Rattle.tb_token.specs.grammar.Queries.{rules, follow}
 use Rattle.tb_token.proofs.grammar.QueryLaws.{readable}
-use Rattle.tb_token.specs.declared.lexer.token.Kind.TheVariants.{Word, Sign, Quoted}
+use Rattle.tb_token.specs.declared.lexer.token.Kind.TheVariants.{Word, Sign}
+use Rattle.tb_token.specs.tokens.LetterNames as letters
 use Rattle.tb_pattern.specs.Syntax.{AreMatch}
 use Rattle.tb_pattern.specs.Faults.{HasNoFault}
 use Rattle.tb_pattern.specs.Plain.{PlainEdges}
@@ -85,7 +86,7 @@ module _ (s : List Tok) (es : List Edge) (left : List Tok) where
       (both-builds doc edges Doc (AreBelow es) s1 s5 left
       (both-builds (word (codes "DOCUMENT")) (both (sign (codes "(")) (both string (sign (codes ")")))) (Next s1) Open s1 s2 s5 (one-builds (word_letter (codes "DOCUMENT")) s1)
       (both-builds (sign (codes "(")) (both string (sign (codes ")"))) (Next s2) Close s2 s3 s5 (one-builds (letter (codes "(")) s2)
-      (both-builds string (sign (codes ")")) (Next s3) (Next s4) s3 s4 s5 (one-builds (letter_of Quoted [] ∷ []) s3) (one-builds (letter (codes ")")) s4))))
+      (both-builds string (sign (codes ")")) (Next s3) (Next s4) s3 s4 s5 (one-builds (letters.QUOTED ∷ []) s3) (one-builds (letter (codes ")")) s4))))
       (rest-builds es s5 left rest_is)))
 
 -- a reading that ends with no part left has no token left

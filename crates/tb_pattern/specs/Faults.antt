@@ -6,32 +6,19 @@ use Rattle.tb_token.specs.grammar.Grammar.{Tok, has}
 use Rattle.tb_token.specs.grammar.Words.{IsWrongAt}
 use Rattle.tb_number.specs.Range.{within_range}
 use Rattle.tb_number.specs.Reading.{integer_of}
-use Rattle.tb_token.specs.tokens.Letters.{letter_of}
 use Rattle.tb_token.specs.grammar.Patterns.{match_query}
 use Rattle.tb_token.specs.grammar.Queries.{rules}
-use Rattle.tb_token.specs.declared.lexer.token.Kind.TheVariants.{Number}
-use Rattle.tb_pattern.specs.Letters.{is_sign, axis_letters}
+use Rattle.tb_token.specs.tokens.LetterNames.{is_sign, letters_of}
+use Rattle.tb_token.specs.tokens.LetterNames as letters
+use Rattle.tb_token.specs.tokens.Nesting as nesting
 use Rattle.tb_pattern.specs.Syntax.{AreMatch}
 use Rattle.tb_pattern.specs.declared.fault.PatternFault.{PatternFault}
 use Rattle.tb_pattern.specs.declared.fault.PatternFault.TheVariants.{Syntax, TooNested, TooManyNodes, LiteralPast, NoMemory}
 
--- how many brackets are open behind the letter, where so many are before it
-abbrev pub open_behind : ℕ → ℕ → ℕ
-open_behind depth x =
-    if is_sign (codes "(") x then depth + 1
-    else (if is_sign (codes ")") x then depth - 1 else depth)
-
--- Somewhere more than 32 brackets are open. In a query these are pattern nodes inside each other
--- (`nested-levels` of proofs/NestLaws).
-abbrev pub nests_past : ℕ → List ℕ → Bool
-nests_past depth [] = false
-nests_past depth (x ∷ xs) =
-    let behind = open_behind depth x in nat_lt 32 behind || nests_past behind xs
-
 -- how many tests are written: each has an axis before it, and in a pattern a mark between
 abbrev pub tests_in : List ℕ → ℕ
 tests_in [] = 0
-tests_in (x ∷ xs) = if has axis_letters x then 1 + tests_in xs else tests_in xs
+tests_in (x ∷ xs) = if has letters.AXES x then 1 + tests_in xs else tests_in xs
 
 -- digits behind their sign
 abbrev pub with_sign : Bool → List ℕ → List ℕ
@@ -48,7 +35,7 @@ is_none (Some n) = false
 
 -- the token is a number outside the range
 abbrev pub is_past : Bool → ℕ → List ℕ → Bool
-is_past minus x bytes = x == letter_of Number [] && is_none (literal_in minus bytes)
+is_past minus x bytes = x == letters.NUMBER && is_none (literal_in minus bytes)
 
 -- The first number token whose number, with its sign, is outside the range. Numbers stand in
 -- literals alone, so a `-` directly before one is its sign.
@@ -60,11 +47,10 @@ past_behind minus (t ∷ s) =
 
 -- The same of tokens, by their letters.
 
-abbrev pub letters_of : List Tok → List ℕ
-letters_of s = map (λ t. t.letter) s
-
+-- Somewhere more than 32 brackets are open. In a query these are pattern nodes inside each other
+-- (`nested-levels` of proofs/NestLaws).
 abbrev pub is_too_nested : List Tok → Bool
-is_too_nested s = nests_past 0 (letters_of s)
+is_too_nested s = nesting.is_too_nested (letters.OPEN ∷ []) (letters.CLOSE ∷ []) s
 
 abbrev pub tests_of : List Tok → ℕ
 tests_of s = tests_in (letters_of s)

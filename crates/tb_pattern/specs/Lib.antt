@@ -5,7 +5,6 @@ pub mod Plain
 pub mod View
 pub mod Witness
 pub mod WitnessTree
-pub mod Letters
 pub mod Syntax
 pub mod Faults
 pub mod Value

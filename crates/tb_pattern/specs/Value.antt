@@ -12,7 +12,7 @@ use Rattle.tb_tree.specs.declared.node_test.Test.{Test}
 use Rattle.tb_tree.specs.declared.node_test.Test.TheVariants as test
 use Rattle.tb_token.specs.grammar.Patterns.{match_query}
 use Rattle.tb_token.specs.grammar.Queries.{rules}
-use Rattle.tb_pattern.specs.Letters.{is_sign}
+use Rattle.tb_token.specs.tokens.LetterNames.{is_sign}
 use Rattle.tb_pattern.specs.Plain.{matching, PlainEdges, no_edges, edge}
 use Rattle.tb_pattern.specs.declared.cond.Cond.{Cond}
 use Rattle.tb_pattern.specs.declared.cond.Literal.{Literal}

@@ -2,18 +2,17 @@
 
 ghost use Rattle.std.specs.Prelude.{◌≡◌, IfOk, drop};
 ghost use Rattle.tb_pattern.specs.Building as built;
-ghost use Rattle.tb_pattern.specs.Letters.{name_letters};
 ghost use Rattle.tb_pattern.specs.Value as value;
+ghost use Rattle.tb_token.specs.tokens.LetterNames as letters;
 
 use crate::Mark;
-use crate::letter::is_name;
 use std::alloc::{AllocError, Global};
 use tb_number::CmpOp;
 use tb_span::Axis;
 use tb_token::Lexeme;
 use tb_token::letters::{
-    DOUBLE_SLASH, GREATER, GREATER_OR_EQUAL, LESS, LESS_OR_EQUAL, NOT_EQUAL, PLUS, QUESTION, STAR,
-    has,
+    DOUBLE_SLASH, GREATER, GREATER_OR_EQUAL, LESS, LESS_OR_EQUAL, NAMES, NOT_EQUAL, PLUS, QUESTION,
+    STAR, has,
 };
 use tb_tree::Bytes;
 
@@ -29,12 +28,9 @@ pub fn begins(tokens: &[Lexeme], letters: &[u8]) -> bool
 
 /// Whether the next token is a name or a word.
 pub fn begins_name(tokens: &[Lexeme]) -> bool
-    ensures { result ≡ built.begins name_letters tokens.now }
+    ensures { result ≡ built.begins letters.NAMES tokens.now }
 {
-    match tokens {
-        [first, ..] => is_name(first.letter),
-        [] => false,
-    }
+    begins(tokens, NAMES)
 }
 
 /// The tokens behind the first few.

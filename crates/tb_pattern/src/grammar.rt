@@ -36,23 +36,11 @@ const MATCH: Part = Part::One(&[letters::MATCH]);
 
 const DOCUMENT: Part = Part::One(&[letters::DOCUMENT]);
 
-pub const AXIS: Part = Part::One(&[letters::SLASH, letters::DOUBLE_SLASH]);
+pub const AXIS: Part = Part::One(letters::AXES);
 
-const MARK: Part = Part::One(&[
-    letters::MINUS,
-    letters::QUESTION,
-    letters::PLUS,
-    letters::STAR,
-]);
+const MARK: Part = Part::One(letters::MARKS);
 
-pub const CMP: Part = Part::One(&[
-    letters::EQUAL,
-    letters::NOT_EQUAL,
-    letters::LESS,
-    letters::LESS_OR_EQUAL,
-    letters::GREATER,
-    letters::GREATER_OR_EQUAL,
-]);
+pub const CMP: Part = Part::One(letters::COMPARISONS);
 
 // doc = DOCUMENT "(" STRING ")"
 pub const DOC: Part = Part::Both(&DOCUMENT, &Part::Both(&OPEN, &Part::Both(&STRING, &CLOSE)));

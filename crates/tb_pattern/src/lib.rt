@@ -12,7 +12,6 @@ pub mod conds;
 mod fault;
 pub mod front;
 pub mod grammar;
-mod letter;
 pub mod limits;
 pub mod node_test;
 mod pattern;

@@ -1,40 +1,19 @@
 //! The limits of a query: how deep it nests, how many tests it has, and how large its numbers are.
 
 ghost use Rattle.std.specs.Prelude.{◌≡◌, ◌≤◌, IfOk, length};
-ghost use Rattle.tb_pattern.specs.Faults.{open_behind, is_too_nested, tests_of};
+ghost use Rattle.tb_pattern.specs.Faults.{is_too_nested, tests_of};
 ghost use Rattle.tb_pattern.specs.Faults.{literal_in, is_past, first_past};
 
 use std::alloc::{AllocError, Global};
 use tb_number::IntText;
 use tb_token::Lexeme;
-use tb_token::letters::{CLOSE, DOUBLE_SLASH, MINUS, NUMBER, OPEN, SLASH, has};
+use tb_token::letters::{AXES, CLOSE, MINUS, NUMBER, OPEN, has};
 
 /// Whether more than 32 brackets are open somewhere.
 pub fn is_too_nested(tokens: &[Lexeme]) -> bool
     ensures { result ≡ is_too_nested tokens.now }
 {
-    let mut depth = 0;
-    'tokens: for token in tokens {
-        depth = open_behind(depth, token.letter);
-        if depth > 32 {
-            return true;
-        }
-    }
-    false
-}
-
-/// How many brackets are open behind the letter.
-fn open_behind(depth: u32, letter: u8) -> u32
-    requires { depth ≤ 32 }
-    ensures { result ≡ open_behind depth letter }
-{
-    if letter == OPEN {
-        depth + 1
-    } else if letter == CLOSE {
-        depth.saturating_sub(1)
-    } else {
-        depth
-    }
+    tb_token::is_too_nested(tokens, &[OPEN], &[CLOSE])
 }
 
 /// How many tests are written.
@@ -43,7 +22,7 @@ pub fn tests_in(tokens: &[Lexeme]) -> usize
 {
     let mut tests = 0;
     'tokens: for token in tokens {
-        if has(&[SLASH, DOUBLE_SLASH], token.letter) {
+        if has(AXES, token.letter) {
             tests += 1;
         }
     }

@@ -6,5 +6,7 @@ pub mod Kinds
 pub mod Cuts
 pub mod Calls
 pub mod Letters
+pub mod LetterNames
+pub mod Nesting
 pub mod Fronts
 pub mod Places

@@ -8,5 +8,6 @@ mod letter;
 pub mod letters;
 pub mod lexeme;
 mod names;
+pub mod nesting;
 mod signs;
 pub mod token;

@@ -18,6 +18,7 @@ pub use lexer::cut::tokens;
 pub use lexer::fault::LexFault;
 pub use lexer::letters;
 pub use lexer::lexeme::{Lexeme, lexemes};
+pub use lexer::nesting::is_too_nested;
 pub use lexer::token::{Kind, Token};
 pub use query_laws::laws_of_queries;
 pub use reader::part::{Grammar, Part};

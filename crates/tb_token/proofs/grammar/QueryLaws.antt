@@ -8,9 +8,8 @@ use Rattle.tb_token.proofs.grammar.WordLaws.{word-one, word-both, word-first, wo
 use Rattle.tb_token.specs.grammar.Patterns.{doc}
 use Rattle.tb_token.specs.grammar.Paths.{step}
 use Rattle.tb_token.specs.grammar.Queries.{rules, follow}
-use Rattle.tb_token.specs.tokens.Letters.{letter_of}
-use Rattle.tb_token.specs.declared.lexer.token.Kind.TheVariants.{Variable}
 use Rattle.tb_token.specs.grammar.QueryLaws.{IsReadable, AreOneQuery, IsWrittenPath}
+use Rattle.tb_token.specs.tokens.LetterNames as letters
 
 rules-decided : (n : ℕ) → is_decided follow (follow n) (rules n) ≡ true
 rules-decided zero = refl
@@ -78,5 +77,5 @@ module _ (rules : Rules) (p q : Part) (c : List ℕ) (ps : List Part) where
 
 pub is-written_path : IsWrittenPath
 is-written_path ps s =
-    let c = letter_of Variable [] ∷ [] in
+    let c = letters.VARIABLE ∷ [] in
     (λ word. decided-written rules doc step c ps word.1, λ word. written-decided rules doc step c ps word.1)

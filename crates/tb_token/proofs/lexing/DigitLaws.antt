@@ -7,9 +7,10 @@ use Rattle.tb_token.specs.declared.lexer.token.Kind.{Kind}
 use Rattle.tb_token.specs.declared.lexer.token.Kind.TheVariants.{Name, Word, Variable, Number, Quoted, TextTest, Sign}
 use Rattle.tb_token.specs.declared.lexer.token.Token.{Token}
 use Rattle.tb_token.specs.declared.lexer.fault.LexFault.{LexFault}
+use Rattle.tb_token.specs.tokens.LetterNames as letters
 
 -- no other kind has the letter of a number
-number-digits : (k : Kind) (bytes : List ℕ) → is_token k bytes ≡ true → letter_of k bytes ≡ letter_of Number [] → is_number bytes ≡ true
+number-digits : (k : Kind) (bytes : List ℕ) → is_token k bytes ≡ true → letter_of k bytes ≡ letters.NUMBER → is_number bytes ≡ true
 number-digits Name bytes is e = absurd (omega (arith, e))
 number-digits Word bytes is e = absurd (omega (arith, e))
 number-digits Variable bytes is e = absurd (omega (arith, e))

@@ -1,9 +1,8 @@
 -- The grammar of `MATCH` queries, line by line as docs/FORMATS.md has it.
 use Rattle.std.specs.Prelude.{[], ◌∷◌, codes}
 use Rattle.tb_token.specs.grammar.Grammar.{Part, both, either, maybe, opened, row, one_of}
-use Rattle.tb_token.specs.tokens.Letters.{letter_of}
-use Rattle.tb_token.specs.declared.lexer.token.Kind.TheVariants.{Sign}
 use Rattle.tb_token.specs.grammar.Terminals.{word, sign, sign_among, name, number, string, text_test, list_of, comma}
+use Rattle.tb_token.specs.tokens.LetterNames as letters
 
 -- DOCUMENT "(" STRING ")"
 abbrev pub doc : Part
@@ -39,7 +38,7 @@ conds =
 
 -- "(" and rule 0, which is the rest of the edges
 abbrev pub edges : Part
-edges = opened (letter_of Sign (codes "(") ∷ []) 0
+edges = opened (letters.OPEN ∷ []) 0
 
 -- axis mark test [ conds ] [ "!" ] [ edges ]
 abbrev pub edge : Part

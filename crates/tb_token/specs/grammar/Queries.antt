@@ -2,11 +2,12 @@
 use Rattle.std.specs.Prelude.{ℕ, zero, suc, List, [], ◌∷◌, map, codes}
 use Rattle.tb_token.specs.grammar.Grammar.{Part, one, both, either, maybe, many, Rules, row}
 use Rattle.tb_token.specs.tokens.Letters.{letter_of}
-use Rattle.tb_token.specs.declared.lexer.token.Kind.TheVariants.{Word, Quoted, Sign}
+use Rattle.tb_token.specs.declared.lexer.token.Kind.TheVariants.{Word, Sign}
 use Rattle.tb_token.specs.grammar.Terminals.{word, sign, name, variable, list_of, comma}
 use Rattle.tb_token.specs.grammar.Patterns.{cmp, literal, edges_rest, match_query}
 use Rattle.tb_token.specs.grammar.Paths.{longpath, path, operand}
 use Rattle.tb_token.specs.grammar.Results.{cons_rest, back}
+use Rattle.tb_token.specs.tokens.LetterNames as letters
 
 -- VARIABLE [ ALLOWING EMPTY ] IN longpath
 abbrev pub bind : Part
@@ -62,5 +63,5 @@ rules (suc (suc n)) = name
 abbrev pub follow : ℕ → List ℕ
 follow zero = map (letter_of Sign) (codes "," ∷ codes ")" ∷ [])
 follow (suc zero) =
-    letter_of Quoted [] ∷ map (letter_of Sign) (codes "<" ∷ codes "{" ∷ codes "</" ∷ [])
+    letters.QUOTED ∷ map (letter_of Sign) (codes "<" ∷ codes "{" ∷ codes "</" ∷ [])
 follow (suc (suc n)) = []

@@ -1,14 +1,13 @@
 -- The grammar of what a query returns, line by line as docs/FORMATS.md has it.
 use Rattle.std.specs.Prelude.{[], ◌∷◌, codes}
 use Rattle.tb_token.specs.grammar.Grammar.{Part, either, many, opened, row, one_of}
-use Rattle.tb_token.specs.tokens.Letters.{letter_of}
-use Rattle.tb_token.specs.declared.lexer.token.Kind.TheVariants.{Sign}
 use Rattle.tb_token.specs.grammar.Terminals.{sign, name, string}
 use Rattle.tb_token.specs.grammar.Paths.{path, operand}
+use Rattle.tb_token.specs.tokens.LetterNames as letters
 
 -- "<" and rule 1, which is the rest of the constructor
 abbrev pub cons : Part
-cons = opened (letter_of Sign (codes "<") ∷ []) 1
+cons = opened (letters.LESS ∷ []) 1
 
 -- "{" operand "}"
 abbrev pub braced : Part

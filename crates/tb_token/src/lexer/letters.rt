@@ -106,6 +106,19 @@ pub const NAMES: &[u8] = &[
     0, 64, 65, 66, 67, 68, 69, 70, 71, 72, 73, 74, 75, 76, 77, 78, 79, 80, 81, 82,
 ];
 
+pub const AXES: &[u8] = &[SLASH, DOUBLE_SLASH];
+
+pub const MARKS: &[u8] = &[MINUS, QUESTION, PLUS, STAR];
+
+pub const COMPARISONS: &[u8] = &[
+    EQUAL,
+    NOT_EQUAL,
+    LESS,
+    LESS_OR_EQUAL,
+    GREATER,
+    GREATER_OR_EQUAL,
+];
+
 /// Whether the letter is among these.
 pub fn has(letters: &[u8], letter: u8) -> bool
     ensures { result ≡ has letters.now letter }
