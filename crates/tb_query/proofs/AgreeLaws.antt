@@ -1,12 +1,13 @@
 -- Where two lists of documents agree on the names of a query, its answer is the same over both.
 use Rattle.std.proofs.Common.{◌≡◌, ℕ, Bool, true, false, ◌==◌, if◌then◌else◌, List, [], ◌∷◌, ◌++◌, Option, Some, None, option_map, option_and_then, map, refl, ap, ◌∙◌}
-use Rattle.std.specs.List.{flat_map, fold}
+use Rattle.std.specs.List.{flat_map, fold, AllByRecursion}
 use mathlib.Core.Path.{fun_ext}
 use Rattle.tb_tree.specs.Plain.{Plain}
 use Rattle.tb_pattern.specs.View.{edges_of}
 use Rattle.tb_query.specs.Lists.{all_given, joined, sorted, each_once}
 use Rattle.tb_query.specs.Nodes.{nodes_from}
-use Rattle.tb_query.specs.Tuples.{Docs, found, Tuple, Lets, let_path, behind_variable, start_in, from_root, nodes_in, standing, standing_from, extended, Bindings, bound_by, bindings}
+use Rattle.tb_tree.specs.Documents.{Docs, found}
+use Rattle.tb_query.specs.Tuples.{Tuple, Lets, let_path, behind_variable, start_in, from_root, nodes_in, standing, standing_from, extended, Bindings, bound_by, bindings}
 use Rattle.tb_query.specs.Comparisons.{nodes_at}
 use Rattle.tb_query.specs.Groups.{groups_of, grouped_by, nodes_over, is_same_node}
 use Rattle.tb_query.specs.Order.{sort_value, sort_values_cmp}
@@ -14,7 +15,7 @@ use Rattle.tb_query.specs.Parts.{PlainBack, back_of}
 use Rattle.tb_query.specs.Answer.{kept_tuples, ordered_groups, trees_of_groups, bound_trees, flwor_trees, match_trees, trees_of_query, counted}
 use Rattle.tb_query.specs.Names.{names_of_start, names_of_path, names_of_clause, names_of_comparison, names_of_group, names_of_key, names_of_back, names_of_flwor, written_names, names_once}
 use Rattle.tb_query.specs.NameLaw.{Agree, AreEnough, DependsOnNames}
-use Rattle.tb_query.proofs.OnceLaws.{contains-once}
+use Rattle.tb_query.proofs.NamesLaws.{contains-once}
 use Rattle.tb_query.specs.declared.path.Path.{Path}
 use Rattle.tb_query.specs.declared.path.Start.{Start}
 use Rattle.tb_query.specs.declared.path.Start.TheVariants.{Document, Var}
@@ -27,7 +28,7 @@ use Rattle.tb_query.specs.declared.clause.Key.{Key}
 use Rattle.tb_query.specs.declared.query.Flwor as flwor
 use Rattle.tb_query.specs.declared.query.Query.{Query}
 use Rattle.tb_query.specs.declared.query.Query.TheVariants.{Match, Flwor}
-use Rattle.tb_query.proofs.AlikeLaws.{Each, Alike, listed-same, conds-same, key-same, back-same}
+use Rattle.tb_query.proofs.AlikeLaws.{Alike, listed-same, conds-same, key-same, back-same}
 use Rattle.std.proofs.lemmas.List.Elements.{Contains-append_left, Contains-append_right}
 use Rattle.std.proofs.Common.{arith}
 
@@ -53,7 +54,7 @@ module _ (docs other : Docs) where
 
   -- The paths of variables of LET start so.
   abbrev AreSame : Lets → Type 0
-  AreSame lets = Each (λ l. IsSameStart l.1.start) lets
+  AreSame lets = AllByRecursion (λ l. IsSameStart l.1.start) lets
 
   with_let : (b : Bool) (var : ℕ) (path : Path) (found : Option Path) (steps : List Step) → IsSameStart path.start
       → IsSameStart (behind_variable var found steps).start

@@ -1,13 +1,13 @@
 -- Operands, conditions, keys and constructors give the same for two ways in which paths have nodes,
 -- where these are alike on the paths whose names are written there.
 use Rattle.std.proofs.Common.{◌≡◌, ℕ, Bool, true, false, not, cond, if◌then◌else◌, map, List, [], ◌∷◌, ◌++◌, Option, Some, option_map, option_and_then, refl, ap, ap₂}
-use Rattle.std.specs.Bool.{⊤}
-use Rattle.std.specs.List.{Contains, flat_map, filter, join_with_byte}
+use Rattle.std.specs.List.{AllByRecursion, Contains, flat_map, filter, join_with_byte}
 use Rattle.std.specs.Option.{option_to_list}
 use mathlib.Core.Path.{fun_ext}
 use Rattle.std.proofs.lemmas.List.Elements.{Contains-append_left, Contains-append_right}
 use Rattle.tb_tree.specs.Plain.{attr, text, kid, plains, joined_kids}
 use Rattle.tb_tree.specs.Numbers.{Numbered}
+use Rattle.tb_tree.proofs.lists.Alls.{all-append}
 use Rattle.tb_number.specs.declared.op.CmpOp.{CmpOp}
 use Rattle.tb_query.specs.Lists.{all_given}
 use Rattle.tb_query.specs.Operands.{values, aggregate, operand_values, first_of}
@@ -27,29 +27,17 @@ use Rattle.tb_query.specs.declared.back.AttrPart.{AttrPart}
 use Rattle.tb_query.specs.declared.back.Content as contents
 use Rattle.tb_query.specs.declared.back.Content.TheVariants.{Text, Operand}
 
--- P of each item, from the first on
-abbrev pub Each : {A : Type 0} → (A → Type 0) → List A → Type 0
-Each P [] = ⊤
-Each P (x ∷ xs) = P x × Each P xs
-
-pub each-every : {A : Type 0} (P : A → Type 0) → ((x : A) → P x) → (xs : List A) → Each P xs
-each-every P every [] = tt
-each-every P every (x ∷ xs) = (every x, each-every P every xs)
-
-pub each-append : {A : Type 0} (P : A → Type 0) (xs ys : List A) → Each P xs → Each P ys → Each P (xs ++ ys)
-each-append P [] ys first behind = behind
-each-append P (x ∷ xs) ys first behind = (first.0, each-append P xs ys first.1 behind)
-
-each-kept : {A : Type 0} (P : A → Type 0) (b : Bool) (x : A) (xs : List A) → P x → Each P xs → Each P (cond b (x ∷ xs) xs)
+-- what holds of each item holds of those that a test keeps
+pub each-kept : {A : Type 0} (P : A → Type 0) (b : Bool) (x : A) (xs : List A) → P x → AllByRecursion P xs → AllByRecursion P (cond b (x ∷ xs) xs)
 each-kept P true x xs this others = (this, others)
 each-kept P false x xs this others = others
 
-pub each-filter : {A : Type 0} (P : A → Type 0) (test : A → Bool) (xs : List A) → Each P xs → Each P (filter test xs)
+pub each-filter : {A : Type 0} (P : A → Type 0) (test : A → Bool) (xs : List A) → AllByRecursion P xs → AllByRecursion P (filter test xs)
 each-filter P test [] all = tt
 each-filter P test (x ∷ xs) all = each-kept P (test x) x (filter test xs) all.0 (each-filter P test xs all.1)
 
 -- what items give that give the same
-pub all_given-same : {A B : Type 0} (f g : A → Option B) (xs : List A) → Each (λ x. f x ≡ g x) xs → all_given f xs ≡ all_given g xs
+pub all_given-same : {A B : Type 0} (f g : A → Option B) (xs : List A) → AllByRecursion (λ x. f x ≡ g x) xs → all_given f xs ≡ all_given g xs
 all_given-same f g [] same = refl
 all_given-same f g (x ∷ xs) same =
     ap₂ (λ given others. option_and_then (λ y. option_map (λ ys. y ∷ ys) others) given) same.0 (all_given-same f g xs same.1)
@@ -69,13 +57,13 @@ module _ (n m : Path → List Numbered) where
   pub alike-right : (xs ys : List (List ℕ)) → Alike (xs ++ ys) → Alike ys
   alike-right xs ys alike path within = alike path (λ name has. Contains-append_right xs ys name (within name has))
 
-  pub alike-each : {A : Type 0} (names : A → List (List ℕ)) (xs : List A) → Alike (flat_map names xs) → Each (λ x. Alike (names x)) xs
+  pub alike-each : {A : Type 0} (names : A → List (List ℕ)) (xs : List A) → Alike (flat_map names xs) → AllByRecursion (λ x. Alike (names x)) xs
   alike-each names [] alike = tt
   alike-each names (x ∷ xs) alike =
       (alike-left (names x) (flat_map names xs) alike, alike-each names xs (alike-right (names x) (flat_map names xs) alike))
 
   each-given : {A B : Type 0} (names : A → List (List ℕ)) (f g : A → Option B) → ((x : A) → Alike (names x) → f x ≡ g x)
-      → (xs : List A) → Each (λ x. Alike (names x)) xs → Each (λ x. f x ≡ g x) xs
+      → (xs : List A) → AllByRecursion (λ x. Alike (names x)) xs → AllByRecursion (λ x. f x ≡ g x) xs
   each-given names f g same [] alike = tt
   each-given names f g same (x ∷ xs) alike = (same x alike.0, each-given names f g same xs alike.1)
 
@@ -102,7 +90,7 @@ module _ (n m : Path → List Numbered) where
       (fun_ext (λ left. right-same c.op left c.right (alike-right (names_of_operand c.left) (names_of_right c.right) alike)))
       (operand-same c.left (alike-left (names_of_operand c.left) (names_of_right c.right) alike))
 
-  tested-same : (conds : List Comparison) → Each (λ c. Alike (names_of_comparison c)) conds → all_tested n conds ≡ all_tested m conds
+  tested-same : (conds : List Comparison) → AllByRecursion (λ c. Alike (names_of_comparison c)) conds → all_tested n conds ≡ all_tested m conds
   tested-same [] alike = refl
   tested-same (c ∷ conds) alike =
       ap₂ (λ others held. option_and_then (λ b. if b then others else Some false) held)
@@ -115,7 +103,7 @@ module _ (n m : Path → List Numbered) where
       let all = alike-each names_of_comparison conds alike in
       let P : Comparison → Type 0 = λ c. Alike (names_of_comparison c) in
       tested-same (as_tested conds)
-      (each-append P (filter (λ c. not (has_sum c)) conds) (filter has_sum conds)
+      (all-append P (filter (λ c. not (has_sum c)) conds) (filter has_sum conds)
       (each-filter P (λ c. not (has_sum c)) conds all) (each-filter P has_sum conds all))
 
   pub key-same : (key : Key) → Alike (names_of_key key) → sort_value n key ≡ sort_value m key

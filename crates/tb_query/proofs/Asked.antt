@@ -5,7 +5,7 @@ use Rattle.tb_pattern.specs.View.{edges_of}
 use Rattle.tb_pattern.specs.declared.pattern.Pattern.{Pattern}
 use Rattle.tb_query.specs.Answer.{answer, flwor_trees, match_trees, counted}
 use Rattle.tb_query.specs.Parts.{PlainBack, back_of}
-use Rattle.tb_query.specs.Tuples.{Docs, found}
+use Rattle.tb_tree.specs.Documents.{Docs, found}
 use Rattle.tb_query.specs.declared.query.Flwor as flwor
 use Rattle.tb_query.specs.declared.query.Query.TheVariants.{Match, Flwor}
 

@@ -10,7 +10,7 @@ use Rattle.tb_number.specs.declared.agg.AggKind.TheVariants.{Sum}
 use Rattle.tb_pattern.specs.declared.cond.Literal.{Literal}
 use Rattle.tb_pattern.specs.declared.cond.Literal.TheVariants.{Number, Text}
 use Rattle.tb_query.specs.Parts.{PlainBack, cons_back, element, content, no_parts}
-use Rattle.tb_query.specs.Tuples.{Docs}
+use Rattle.tb_tree.specs.Documents.{Docs}
 use Rattle.tb_query.specs.declared.back.Back.TheVariants.{Nodes, Cons}
 use Rattle.tb_query.specs.declared.back.Content.TheVariants.{Operand}
 use Rattle.tb_query.specs.declared.back.Part.{the_lemmas}

@@ -8,7 +8,7 @@ use Rattle.tb_number.specs.declared.op.CmpOp.TheVariants.{Eq, Gt}
 use Rattle.tb_number.specs.declared.agg.AggKind.TheVariants.{Count}
 use Rattle.tb_pattern.specs.declared.cond.Literal.TheVariants.{Number}
 use Rattle.tb_query.specs.Parts.{PlainBack, cons_back, element, inner, content, no_parts}
-use Rattle.tb_query.specs.Tuples.{Docs}
+use Rattle.tb_tree.specs.Documents.{Docs}
 use Rattle.tb_query.specs.declared.back.AttrPart.{AttrPart}
 use Rattle.tb_query.specs.declared.back.Back.TheVariants.{Nodes, Cons}
 use Rattle.tb_query.specs.declared.back.Content.TheVariants.{Operand}

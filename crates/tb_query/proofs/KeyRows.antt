@@ -5,7 +5,7 @@ use Rattle.tb_number.specs.Reading.{integer_of}
 use Rattle.tb_number.specs.Canonical.{canonical_text}
 use Rattle.tb_number.specs.declared.agg.AggKind.TheVariants.{Count, Sum}
 use Rattle.tb_query.specs.Parts.{cons_back, element, no_parts}
-use Rattle.tb_query.specs.Tuples.{Docs}
+use Rattle.tb_tree.specs.Documents.{Docs}
 use Rattle.tb_query.specs.declared.back.AttrPart.{AttrPart}
 use Rattle.tb_query.specs.declared.back.Back.TheVariants.{Nodes, Cons}
 use Rattle.tb_query.specs.declared.back.Part.{the_lemmas}

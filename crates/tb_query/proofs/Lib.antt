@@ -1,6 +1,8 @@
 pub mod Shorthand
 pub mod Asked
 pub mod OnceLaws
+pub mod GroupLaws
+pub mod NamesLaws
 pub mod AlikeLaws
 pub mod AgreeLaws
 pub mod PathRows

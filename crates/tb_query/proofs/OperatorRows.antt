@@ -15,9 +15,9 @@ use Rattle.tb_number.specs.Canonical.{canonical_text}
 use Rattle.tb_number.specs.declared.op.CmpOp.TheVariants.{Ne}
 use Rattle.tb_number.specs.declared.agg.AggKind.TheVariants.{Count}
 use Rattle.tb_pattern.specs.declared.pattern.Mark.TheVariants as marks
-use Rattle.tb_query.specs.Tuples.{Docs}
+use Rattle.tb_tree.specs.Documents.{Docs}
 use Rattle.tb_query.specs.Results.{made}
-use Rattle.tb_query.specs.Rows.{NodeIn, Cell, nodes, value, Row, first_rows, values_of}
+use Rattle.tb_tree.specs.Rows.{NodeIn, Cell, nodes, value, Row, first_rows, values_of}
 use Rattle.tb_query.specs.Selected.{of_document, of_column, selected}
 use Rattle.tb_query.specs.Operators.{filtered, value_joined, grouped_rows, aggregated, projected, distinct}
 use Rattle.tb_query.specs.Shapes.{shape_value, shape_tree, constructed}

@@ -9,7 +9,7 @@ use Rattle.tb_pattern.specs.declared.pattern.PNode.{roll-PNode}
 use Rattle.tb_pattern.specs.declared.pattern.Pattern.{Pattern}
 use Rattle.tb_pattern.specs.declared.pattern.Mark.TheVariants.{Any}
 use Rattle.tb_query.specs.Answer.{answer}
-use Rattle.tb_query.specs.Tuples.{Docs}
+use Rattle.tb_tree.specs.Documents.{Docs}
 use Rattle.tb_query.specs.declared.path.Path.{Path}
 use Rattle.tb_query.specs.declared.back.Back.TheVariants.{Nodes}
 use Rattle.tb_query.specs.declared.clause.Clause.{Clause}

@@ -18,7 +18,7 @@ use Rattle.tb_pattern.specs.declared.pattern.Mark.TheVariants.{Any}
 use Rattle.tb_query.specs.Answer.{answer, counted}
 use Rattle.tb_query.specs.Results.{made}
 use Rattle.tb_query.specs.Parts.{PlainBack, cons_back, element, content, no_parts}
-use Rattle.tb_query.specs.Tuples.{Docs}
+use Rattle.tb_tree.specs.Documents.{Docs}
 use Rattle.tb_query.specs.declared.back.AttrPart.{AttrPart}
 use Rattle.tb_query.specs.declared.back.Back.TheVariants.{Nodes, Cons}
 use Rattle.tb_query.specs.declared.back.Content.TheVariants.{Text, Operand}

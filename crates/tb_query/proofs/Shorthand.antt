@@ -23,7 +23,7 @@ use Rattle.tb_query.specs.declared.back.Part.{Part, roll-Part}
 use Rattle.tb_query.specs.declared.back.Part.TheOpen.{Part-F}
 use Rattle.tb_query.specs.declared.back.Back.{Back}
 use Rattle.tb_query.specs.declared.query.Flwor.{Flwor}
-use Rattle.tb_query.specs.Tuples.{Docs}
+use Rattle.tb_tree.specs.Documents.{Docs}
 use Rattle.tb_query.specs.Answer.{answer}
 use Rattle.tb_query.specs.declared.query.Query.TheVariants as queries
 

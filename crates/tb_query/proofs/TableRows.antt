@@ -7,7 +7,9 @@ use Rattle.tb_number.specs.Reading.{integer_of}
 use Rattle.tb_number.specs.Canonical.{canonical_text}
 use Rattle.tb_number.specs.declared.op.CmpOp.TheVariants.{Eq, Ne}
 use Rattle.tb_number.specs.declared.agg.AggKind.TheVariants.{Count, Sum, Min, Max}
-use Rattle.tb_query.specs.Rows.{NodeIn, Cell, nodes, value, Row}
+use Rattle.tb_tree.specs.Rows.{NodeIn, Cell, nodes, value, Row}
+use Rattle.tb_query.specs.Results.{given_trees}
+use Rattle.tb_query.specs.Shapes.{cell_trees}
 use Rattle.tb_query.specs.Operators.{filtered, value_joined, tables_joined, grouped_rows, aggregated, ordered_rows, projected, distinct}
 
 -- the node of this number in a document, a text, and a cell with one such node of the first document
@@ -138,3 +140,10 @@ pub distinct-nodes : distinct
     ∷ (nodes (node_of 1 1 (codes "7") ∷ []) ∷ [])
     ∷ (nodes (node_of 0 2 (codes "7") ∷ []) ∷ []) ∷ []
 distinct-nodes = refl
+
+-- Of an empty text a row gives no tree, as a query doesn't either.
+pub empty-text_of_row : cell_trees (node_of 0 1 [] ∷ node_of 0 2 (codes "a") ∷ []) ≡ text (codes "a") ∷ []
+empty-text_of_row = refl
+
+pub empty-text_of_query : given_trees (record { number = 1; node = text [] } ∷ record { number = 2; node = text (codes "a") } ∷ []) ≡ text (codes "a") ∷ []
+empty-text_of_query = refl

@@ -8,7 +8,8 @@ use Rattle.tb_pattern.specs.View.{edges_of}
 use Rattle.tb_pattern.specs.Witness.{naive_witnesses}
 use Rattle.tb_pattern.specs.WitnessTree.{witness_tree}
 use Rattle.tb_query.specs.Lists.{sorted, all_given, joined}
-use Rattle.tb_query.specs.Tuples.{Docs, found, Tuple, Lets, Bindings, bindings}
+use Rattle.tb_tree.specs.Documents.{Docs, found}
+use Rattle.tb_query.specs.Tuples.{Tuple, Lets, Bindings, bindings}
 use Rattle.tb_query.specs.Comparisons.{passing}
 use Rattle.tb_query.specs.Groups.{groups_of, nodes_over}
 use Rattle.tb_query.specs.Order.{keyed, sort_values_cmp}

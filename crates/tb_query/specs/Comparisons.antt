@@ -9,7 +9,8 @@ use Rattle.tb_number.specs.declared.agg.AggKind.{AggKind}
 use Rattle.tb_number.specs.declared.agg.AggKind.TheVariants.{Sum}
 use Rattle.tb_pattern.specs.Conditions.{stands}
 use Rattle.tb_pattern.specs.declared.cond.Literal as literal
-use Rattle.tb_query.specs.Tuples.{Docs, Tuple, Lets, nodes_in, standing}
+use Rattle.tb_tree.specs.Documents.{Docs}
+use Rattle.tb_query.specs.Tuples.{Tuple, Lets, nodes_in, standing}
 use Rattle.tb_query.specs.Operands.{operand_values}
 use Rattle.tb_query.specs.declared.path.Path.{Path}
 use Rattle.tb_query.specs.declared.operand.Operand as operand

@@ -3,7 +3,8 @@ use Rattle.std.specs.Prelude.{ℕ, ◌==◌, Bool, List, [], ◌∷◌, Option, 
 use Rattle.tb_tree.specs.Numbers.{Numbered}
 use Rattle.tb_number.specs.Keys.{is_same_key}
 use Rattle.tb_query.specs.Lists.{each_once, grouped}
-use Rattle.tb_query.specs.Tuples.{Docs, Tuple, Lets, nodes_in, standing}
+use Rattle.tb_tree.specs.Documents.{Docs}
+use Rattle.tb_query.specs.Tuples.{Tuple, Lets, nodes_in, standing}
 use Rattle.tb_query.specs.Operands.{values, first_of}
 use Rattle.tb_query.specs.declared.path.Path.{Path}
 use Rattle.tb_query.specs.declared.clause.GroupBy.{GroupBy}

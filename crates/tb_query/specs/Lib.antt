@@ -12,7 +12,7 @@ pub mod Results
 pub mod Answer
 pub mod Names
 pub mod NameLaw
-pub mod Rows
+pub mod SameRows
 pub mod Selected
 pub mod Operators
 pub mod Shapes

@@ -1,5 +1,6 @@
 -- Lists of items of which some are the same.
 use Rattle.std.specs.Prelude.{Bool, not, if◌then◌else◌, List, [], ◌∷◌, ◌++◌, Option, Some, option_map, option_and_then, filter, map}
+use Rattle.std.specs.List.{list_any}
 use Rattle.std.specs.Ordering.{is_gt}
 use Rattle.std.specs.declared.cmp.Ordering.{Ordering}
 
@@ -7,6 +8,10 @@ use Rattle.std.specs.declared.cmp.Ordering.{Ordering}
 abbrev pub each_once : {A : Type 0} → (A → A → Bool) → List A → List A
 each_once same [] = []
 each_once same (x ∷ xs) = x ∷ filter (λ y. not (same x y)) (each_once same xs)
+
+-- the items with one more behind them, unless it is among them
+abbrev pub with_once : {A : Type 0} → (A → A → Bool) → List A → A → List A
+with_once same xs x = if list_any (same x) xs then xs else xs ++ x ∷ []
 
 -- Items that are the same are a group, in their order. Groups stand in the order of their first
 -- items.

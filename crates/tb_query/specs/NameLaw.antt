@@ -1,7 +1,7 @@
 -- That an answer depends on the documents that a query names alone.
 use Rattle.std.specs.Prelude.{◌≡◌, ℕ, List}
 use Rattle.std.specs.List.{Contains}
-use Rattle.tb_query.specs.Tuples.{Docs, found}
+use Rattle.tb_tree.specs.Documents.{Docs, found}
 use Rattle.tb_query.specs.Names.{written_names}
 use Rattle.tb_query.specs.Answer.{answer}
 use Rattle.tb_query.specs.declared.query.Query.{Query}

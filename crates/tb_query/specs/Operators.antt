@@ -15,7 +15,8 @@ use Rattle.tb_query.specs.Lists.{each_once, grouped, sorted, all_given}
 use Rattle.tb_query.specs.Operands.{first_of, aggregate}
 use Rattle.tb_query.specs.Comparisons.{some_stand, some_stand_to}
 use Rattle.tb_query.specs.Order.{SortValue, sort_values_cmp}
-use Rattle.tb_query.specs.Rows.{NodeIn, Cell, nodes, value, Row, cell_at, nodes_of, values_of, is_same, is_same_row}
+use Rattle.tb_tree.specs.Rows.{NodeIn, Cell, nodes, value, Row, cell_at, nodes_of, values_of, is_same}
+use Rattle.tb_query.specs.SameRows.{is_same_row}
 
 -- the values in a column
 abbrev pub values_at : ℕ → Row → List (List ℕ)

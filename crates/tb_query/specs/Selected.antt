@@ -5,8 +5,8 @@ use Rattle.tb_pattern.specs.declared.pattern.Mark.{Mark}
 use Rattle.tb_pattern.specs.declared.pattern.Mark.TheVariants.{One, Optional, Some, Any}
 use Rattle.tb_query.specs.Lists.{each_once}
 use Rattle.tb_query.specs.Nodes.{From, document_node, node_at, nodes_from}
-use Rattle.tb_query.specs.Tuples.{Docs}
-use Rattle.tb_query.specs.Rows.{NodeIn, Cell, nodes, Row, cell_at, nodes_of, is_same}
+use Rattle.tb_tree.specs.Documents.{Docs}
+use Rattle.tb_tree.specs.Rows.{NodeIn, Cell, nodes, Row, cell_at, nodes_of, is_same}
 use Rattle.tb_query.specs.declared.path.Step.{Step}
 
 -- a column starts at the document of a name, or at the nodes of another column

@@ -1,5 +1,5 @@
 -- The operator that makes trees of rows.
-use Rattle.std.specs.Prelude.{ℕ, List, [], ◌∷◌, map, flat_map}
+use Rattle.std.specs.Prelude.{ℕ, List, [], ◌∷◌, map, flat_map, filter}
 use Rattle.std.specs.List.{join_with_byte}
 use Rattle.std.specs.Option.{option_to_list}
 use Rattle.tb_tree.specs.Plain.{Plain, attr, text, plains}
@@ -9,12 +9,12 @@ use Rattle.tb_tree.specs.declared.shape.ShapeElem.{ShapeElem, fold-ShapeElem}
 use Rattle.tb_tree.specs.declared.shape.ShapePart.TheOpen.{ShapeElem-F, ShapePart-F}
 use Rattle.tb_tree.specs.declared.shape.ShapeContent.{ShapeContent}
 use Rattle.tb_tree.specs.declared.shape.ShapeContent.TheVariants.{Text, Column}
-use Rattle.tb_query.specs.Results.{given_tree, made}
-use Rattle.tb_query.specs.Rows.{NodeIn, Cell, nodes, value, Row, cell_at, nodes_of, values_of}
+use Rattle.tb_query.specs.Results.{given_tree, is_result, made}
+use Rattle.tb_tree.specs.Rows.{NodeIn, Cell, nodes, value, Row, cell_at, nodes_of, values_of}
 
--- the trees of the nodes of a cell, in order
+-- the trees of the nodes of a cell, in order; an empty text gives none
 abbrev pub cell_trees : List NodeIn → List Plain
-cell_trees us = map (λ u. given_tree u.at.node) us
+cell_trees us = filter is_result (map (λ u. given_tree u.at.node) us)
 
 -- the value of an attribute: a text, or the values of a column joined by one space
 abbrev pub shape_value : Row → ShapeContent → List ℕ

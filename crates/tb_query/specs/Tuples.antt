@@ -1,7 +1,7 @@
--- Documents, variables and tuples.
+-- Variables and tuples.
 use Rattle.std.specs.Prelude.{ℕ, ◌==◌, Bool, if◌then◌else◌, List, [], ◌∷◌, ◌++◌, Option, Some, None, map, fold, flat_map}
-use Rattle.std.specs.Str.{bytes_eq}
 use Rattle.tb_tree.specs.Plain.{Plain}
+use Rattle.tb_tree.specs.Documents.{Docs, found}
 use Rattle.tb_tree.specs.Numbers.{Numbered}
 use Rattle.tb_query.specs.Nodes.{From, nowhere, document_node, node_at, nodes_from}
 use Rattle.tb_query.specs.declared.path.Path.{Path}
@@ -10,15 +10,6 @@ use Rattle.tb_query.specs.declared.path.Start.TheVariants.{Document, Var}
 use Rattle.tb_query.specs.declared.path.Step.{Step}
 use Rattle.tb_query.specs.declared.clause.Clause.{Clause}
 use Rattle.tb_query.specs.declared.clause.Clause.TheVariants.{For, Let}
-
--- documents by their names, each by its root
-abbrev pub Docs : Type 0
-Docs = List (List ℕ × Plain)
-
--- the root of the document of the name, or none
-abbrev pub found : List ℕ → Docs → Option Plain
-found name [] = None
-found name (d ∷ docs) = if bytes_eq name d.0 then Some d.1 else found name docs
 
 -- variables with what they stand for, the last one bound first; an empty variable has no node
 abbrev pub Tuple : Type 0

@@ -1,7 +1,9 @@
 //! The names of documents in a query, each once.
 
 ghost use Rattle.std.specs.Prelude.{◌≡◌, IfOk, OnOk};
-ghost use Rattle.tb_query.specs.Lent.{lent, with_once, IsNoted};
+ghost use Rattle.std.specs.Str.{bytes_eq};
+ghost use Rattle.tb_query.specs.Lists.{with_once};
+ghost use Rattle.tb_query.specs.Lent.{lent, IsNoted};
 ghost use Rattle.tb_query.specs.Names.{written_names, names_once};
 ghost use Rattle.tb_query.specs.NameLaw.{AreEnough};
 
@@ -42,7 +44,7 @@ fn add<'a>(
     name: &'a [u8],
 ) -> Result<(), AllocError>
     requires noted { IsNoted seen.old.keys once.old.items }
-    ensures once { OnOk result (once.new.items ≡ with_once once.old.items name.now) }
+    ensures once { OnOk result (once.new.items ≡ with_once bytes_eq once.old.items name.now) }
     ensures noted { OnOk result (IsNoted seen.new.keys once.new.items) }
 {
     if seen.insert(name)? {

@@ -1,4 +1,5 @@
--- Documents as plain data, from the node to what is said of it, and then its lines.
+-- Documents as plain data, from the node to what is said of it, and then its lines; documents by
+-- names, and rows of their nodes.
 pub mod formers
 pub mod Steps
 pub mod TextLines
@@ -12,3 +13,5 @@ pub mod Numbers
 pub mod Meets
 pub mod Value
 pub mod Printed
+pub mod Documents
+pub mod Rows

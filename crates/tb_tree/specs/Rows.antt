@@ -3,7 +3,6 @@ use Rattle.std.specs.Prelude.{ℕ, zero, suc, ◌==◌, Bool, true, false, ◌&&
 use Rattle.std.specs.Option.{option_to_list}
 use Rattle.tb_tree.specs.Numbers.{Numbered}
 use Rattle.tb_tree.specs.Value.{value_of}
-use Rattle.tb_number.specs.Keys.{is_same_key}
 
 -- a node and the number of its document, from 0 in the order of the list of documents
 pub record NodeIn : Type 0 where
@@ -48,15 +47,3 @@ abbrev pub are_same : List NodeIn → List NodeIn → Bool
 are_same [] [] = true
 are_same (u ∷ us) (v ∷ vs) = is_same u v && are_same us vs
 are_same _ _ = false
-
--- the same nodes in one order, or equal values, or both no value
-abbrev pub is_same_cell : Cell → Cell → Bool
-is_same_cell (nodes us) (nodes vs) = are_same us vs
-is_same_cell (value a) (value b) = is_same_key a b
-is_same_cell _ _ = false
-
--- rows of as many cells, which are the same one by one
-abbrev pub is_same_row : Row → Row → Bool
-is_same_row [] [] = true
-is_same_row (c ∷ row) (d ∷ other) = is_same_cell c d && is_same_row row other
-is_same_row _ _ = false
