@@ -1,15 +1,11 @@
-//! What no clause says: that the words of the definitions mean what they should, by patterns and
-//! faults found by hand, and that a query is read with ample memory.
+//! What no clause says: that the words of the definitions mean what they should, by faults found by
+//! hand, and that a query is read with ample memory. `tb_flwor` tells patterns by hand, too.
 
 use crate::PatternFault::{LiteralPast, NoMemory, Syntax, TooManyNodes, TooNested};
 use crate::{Pattern, PatternFault, read_pattern};
 use std::alloc::{AllocError, Global};
 use std::test::Fail;
 use tb_token::tokens;
-
-mod told;
-
-use told::tell;
 
 fn read(alloc: Global, text: &[u8]) -> Result<Pattern, PatternFault> {
     if text.len() > 65_536 {
@@ -34,47 +30,6 @@ fn repeated(
     }
     text.extend_from_slice(back)?;
     Ok(text)
-}
-
-#[test]
-fn patterns_are_read_as_they_are_written(rt: HostRuntime) -> Result<(), Fail> {
-    let rows: [(&[u8], &[u8]); 7] = [
-        (
-            b"match document(\"d\") (/- a, /?*, /+ @b, //* @ *, //-text(), /- FOR)",
-            b"d: child one a; child optional *; child some @b; descendant any @*; \
-              descendant one text(); child one FOR; ",
-        ),
-        (
-            b"MATCH document('it\"s') (/- a (/- b (/- c), /? d), /- e)",
-            b"it\"s: child one a (child one b (child one c; ) child optional d; ) child one e; ",
-        ),
-        (
-            b"MATCH document('') (/- a!, /- b ! (/- c), /- d (/- e!))",
-            b": child one a !; child one b ! (child one c; ) child one d (child one e !; ) ",
-        ),
-        (
-            b"MATCH document('d') (/-a[= 1 AND != -2 AND < 03 AND <= - 4 AND > 5 AND >= '-6'])",
-            b"d: child one a [= 1] [!= -2] [< 3] [<= -4] [> 5] [>= '-6']; ",
-        ),
-        (
-            b"MATCH document('d') (/- a [= 170141183460469231731687303715884105727]!)",
-            b"d: child one a [= 170141183460469231731687303715884105727] !; ",
-        ),
-        (
-            b"MATCH document('d') (/- a [= -170141183460469231731687303715884105728])",
-            b"d: child one a [= -170141183460469231731687303715884105728]; ",
-        ),
-        (
-            b"MATCH document('d') (/- a [= -0 AND = '' AND = \"x AND y\"])",
-            b"d: child one a [= 0] [= ''] [= 'x AND y']; ",
-        ),
-    ];
-    for (text, wanted) in rows {
-        let pattern = read(rt.alloc(), text).map_err(|_fault| "refused")?;
-        let told = tell(rt.alloc(), &pattern).map_err(|_fault| "memory")?;
-        assert_eq!(rt; told.as_slice(), wanted);
-    }
-    Ok(())
 }
 
 #[test]

@@ -7,8 +7,8 @@ use tb_tree::Items;
 #[derive(Debug, Drop)]
 pub struct Witness {
     pub node: NodeId,
-    pub offers: Items<Items<Witness>>,
+    pub offers: Items<Offer>,
 }
 
-/// The witnesses that are offered together for an edge.
+/// The list of the witnesses that are offered together for an edge.
 pub type Offer = Items<Witness>;

@@ -129,7 +129,7 @@ fn a_constructor_has_its_attributes_and_parts_in_order(rt: HostRuntime) -> Resul
 
 #[test]
 fn a_match_query_asks_for_its_pattern(rt: HostRuntime) -> Result<(), Fail> {
-    let rows: [(&[u8], &[u8]); 2] = [
+    let rows: [(&[u8], &[u8]); 8] = [
         (
             b"MATCH document(\"d\") (//- a (//- b))\n",
             b"match d: descendant one a (descendant one b; ) ",
@@ -138,6 +138,35 @@ fn a_match_query_asks_for_its_pattern(rt: HostRuntime) -> Result<(), Fail> {
             b"match document('d') (//- a [>= 3 AND != 'x']! (/? @b, //* text()), /+ FOR)",
             b"match d: descendant one a [>= 3] [!= 'x'] ! \
               (child optional @b; descendant any text(); ) child some FOR; ",
+        ),
+        (
+            b"match document(\"d\") (/- a, /?*, /+ @b, //* @ *, //-text(), /- FOR)",
+            b"match d: child one a; child optional *; child some @b; descendant any @*; \
+              descendant one text(); child one FOR; ",
+        ),
+        (
+            b"MATCH document('it\"s') (/- a (/- b (/- c), /? d), /- e)",
+            b"match it\"s: \
+              child one a (child one b (child one c; ) child optional d; ) child one e; ",
+        ),
+        (
+            b"MATCH document('') (/- a!, /- b ! (/- c), /- d (/- e!))",
+            b"match : \
+              child one a !; child one b ! (child one c; ) child one d (child one e !; ) ",
+        ),
+        (
+            b"MATCH document('d') (/-a[= 1 AND != -2 AND < 03 AND <= - 4 AND > 5 AND >= '-6'])",
+            b"match d: child one a [= 1] [!= -2] [< 3] [<= -4] [> 5] [>= '-6']; ",
+        ),
+        (
+            b"MATCH document('d') (/- a [= 170141183460469231731687303715884105727]!, \
+              /- b [= -170141183460469231731687303715884105728])",
+            b"match d: child one a [= 170141183460469231731687303715884105727] !; \
+              child one b [= -170141183460469231731687303715884105728]; ",
+        ),
+        (
+            b"MATCH document('d') (/- a [= -0 AND = '' AND = \"x AND y\"])",
+            b"match d: child one a [= 0] [= ''] [= 'x AND y']; ",
         ),
     ];
     are_told(&rt, rt.alloc(), &rows)
