@@ -1,4 +1,5 @@
-//! What no clause says: that a command is answered with ample memory, and the worked rows as bytes.
+//! What no clause says: that a command is answered with ample memory. Whole scripts are cases of
+//! `examples/`.
 
 ghost use Rattle.std.specs.Prelude.{◌≤◌};
 
@@ -12,8 +13,6 @@ use tb_script::ScriptFault;
 mod labels;
 mod matchings;
 mod plain;
-mod refusals;
-mod rows;
 mod stores;
 
 // One session loads a document and tells a mark; the other hears it and asks.
@@ -28,17 +27,6 @@ const UNBUILT: &[u8] = b"session\nquery\nFOR $x IN document(\"d\")//x RETURN $x\
 
 // Bytes that a source gives at a call, and that a sink takes.
 const STEP: usize = 16;
-
-// Each text so many times, one behind the other.
-fn repeated(alloc: Global, texts: &[(&[u8], usize)]) -> Result<Vec<u8>, AllocError> {
-    let mut all = Vec::new(alloc);
-    for (text, times) in texts {
-        for _ in 0..*times {
-            all.extend_from_slice(text)?;
-        }
-    }
-    Ok(all)
-}
 
 fn words_of(alloc: Global, given: &[&str]) -> Result<Vec<String>, AllocError> {
     let mut words = Vec::new(alloc);
@@ -125,5 +113,42 @@ fn nothing_is_read_past_byte_67_108_865(rt: HostRuntime) -> Result<(), Fail> {
     );
     assert_eq!(rt; source.left().len(), 1);
     assert_eq!(rt; sink.held(), b"script input-too-long\n".as_slice());
+    Ok(())
+}
+
+#[test]
+fn bytes_may_come_and_go_one_by_one(rt: HostRuntime) -> Result<(), Fail> {
+    let rows: [(&str, &[u8], Status, &[u8]); 4] = [
+        ("single", MARKS, Status::Ok, MARKS_TRANSCRIPT),
+        (
+            "check",
+            MARKS,
+            Status::Ok,
+            b"check sessions 2 commands 4 loads 1 queries 1\n",
+        ),
+        ("single", UNBUILT, Status::NotBuilt, b"not-built\n"),
+        (
+            "single",
+            b"bogus",
+            Status::Script(ScriptFault::UnknownLine(1)),
+            b"script 1 unknown-line\n",
+        ),
+    ];
+    for (word, bytes, status, output) in rows {
+        let (ended, held) = settled(&rt, rt.alloc(), &[word], bytes, 1, (&[], &[]))?;
+        assert_eq!(rt; ended, status);
+        assert_eq!(rt; held.as_slice(), output);
+    }
+    Ok(())
+}
+
+#[test]
+fn an_empty_script_fails_where_its_source_or_its_sink_does(rt: HostRuntime) -> Result<(), Fail> {
+    let (ended, held) = settled(&rt, rt.alloc(), &["single"], b"", 1, (&[], &[3]))?;
+    assert_eq!(rt; ended, Status::WriteFault);
+    assert_eq!(rt; held.as_slice(), b"hi".as_slice());
+    let (ended, held) = settled(&rt, rt.alloc(), &["single"], b"", 1, (&[1], &[]))?;
+    assert_eq!(rt; ended, Status::ReadFault);
+    assert_eq!(rt; held.as_slice(), b"read-fault\n".as_slice());
     Ok(())
 }

@@ -1,11 +1,18 @@
 //! The joins and the plain recursion, which have one contract, on a table of documents and names.
 
+ghost use Rattle.std.specs.Prelude.{◌<◌, ◌≤◌, ◌^◌, IfOk, IfSome};
+ghost use Rattle.tb_tree.specs.Plain.{one};
+ghost use Rattle.tb_tree.specs.View.{plain_of};
+ghost use Rattle.tb_tree.specs.Numbers.{count};
+ghost use Rattle.tb_tree.specs.Levels.{levels};
+
 use super::plain;
 use crate::matching::{Match, matches};
 use std::alloc::{AllocError, Global};
 use std::test::Fail;
 use tb_esis::{EsisFault, read_tree};
 use tb_label::Store;
+use tb_tree::Tree;
 
 const NO_DOCUMENT: &str = "no document";
 
@@ -19,19 +26,29 @@ fn shown(alloc: Global, found: &[Match]) -> Result<String, AllocError> {
     Ok(text)
 }
 
+// The document of the lines, where they are one.
+fn document(alloc: Global, lines: &[u8]) -> Result<Option<Tree>, AllocError>
+    ensures nodes { IfOk result (λ tree. IfSome tree (λ t. count (plain_of t) < 2 ^ 30)) }
+    ensures levels { IfOk result (λ tree. IfSome tree (λ t. levels (one (plain_of t)) ≤ 512)) }
+{
+    if lines.len() > 1000 {
+        return Ok(None);
+    }
+    match read_tree(alloc, lines) {
+        Ok(tree) => Ok(Some(tree)),
+        Err(EsisFault::NoMemory) => Err(AllocError),
+        Err(_) => Ok(None),
+    }
+}
+
 fn by_joins(
     alloc: Global,
     lines: &[u8],
     first: &[u8],
     second: &[u8],
 ) -> Result<String, AllocError> {
-    if lines.len() > 1000 {
+    let Some(tree) = document(alloc, lines)? else {
         return String::from_str(alloc, NO_DOCUMENT);
-    }
-    let tree = match read_tree(alloc, lines) {
-        Ok(tree) => tree,
-        Err(EsisFault::NoMemory) => return Err(AllocError),
-        Err(_) => return String::from_str(alloc, NO_DOCUMENT),
     };
     let store = Store::build(alloc, tree)?;
     let found = matches(alloc, &store, first, second)?;
@@ -44,13 +61,8 @@ fn by_recursion(
     first: &[u8],
     second: &[u8],
 ) -> Result<String, AllocError> {
-    if lines.len() > 1000 {
+    let Some(tree) = document(alloc, lines)? else {
         return String::from_str(alloc, NO_DOCUMENT);
-    }
-    let tree = match read_tree(alloc, lines) {
-        Ok(tree) => tree,
-        Err(EsisFault::NoMemory) => return Err(AllocError),
-        Err(_) => return String::from_str(alloc, NO_DOCUMENT),
     };
     let found = plain::matches(alloc, tree.root(), first, second)?;
     shown(alloc, &found)
