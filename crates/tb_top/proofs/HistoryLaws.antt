@@ -1,5 +1,5 @@
 -- A history with one change more.
-use Rattle.std.proofs.Common.{◌≡◌, ℕ, ◌+◌, ◌≤◌, ◌==◌, Bool, true, false, cond, Option, Some, None, Global, List, [], ◌∷◌, ◌++◌, length, get_or, set, refl, sym, ap, ◌∙◌, subst, arith, inl, inr, ◌⊎◌, eq-eqb, eqb-true, ◌<◌}
+use Rattle.std.proofs.Common.{◌≡◌, ℕ, ◌+◌, ◌≤◌, ◌==◌, Bool, true, false, cond, Option, Some, None, Global, List, [], ◌∷◌, ◌++◌, length, map, get_or, set, refl, sym, ap, ◌∙◌, subst, arith, inl, inr, ◌⊎◌, eq-eqb, eqb-true, ◌<◌}
 use Rattle.std.specs.Option.{option_map}
 use Rattle.std.specs.BTreeMap.{BTreeMap, get, is_at}
 use Rattle.std.specs.declared.sync.Arc.{Arc}
@@ -8,17 +8,19 @@ use Rattle.std.specs.Cmp.Lexicographic.{slice_cmp}
 use Rattle.std.specs.Ordering.{nat_cmp}
 use Rattle.std.specs.Str.{bytes_eq}
 use Rattle.std.proofs.lemmas.Bool.{cases_eq, false_from_ne_true}
-use Rattle.std.proofs.lemmas.List.{get_or-set_same, get_or-set_other}
+use Rattle.std.proofs.lemmas.List.{get_or-set_same, get_or-set_other, map-append}
 use Rattle.std.proofs.lemmas.Map.Text.{is_eq-slice_cmp}
 use Rattle.tb_tree.specs.Plain.{Plain}
 use Rattle.tb_tree.specs.View.{plain_of}
 use Rattle.tb_tree.specs.declared.node.Node.{Node}
 use Rattle.tb_top.specs.History.{Change, count_of, or_earlier, document_in}
+use Rattle.tb_top.specs.Kept.{change_in}
+use Rattle.tb_top.specs.declared.history.Change as change_code
 
-abbrev Kept : Type 0
-Kept = Arc Node Global
+abbrev Shared : Type 0
+Shared = Arc Node Global
 
-abbrev tree_of : Kept → Plain
+abbrev tree_of : Shared → Plain
 tree_of store = plain_of (arc_value store)
 
 later : (b : Bool) (tree : Plain) (found earlier : Option Plain) → or_earlier (cond b (Some tree) found) earlier ≡ cond b (Some tree) (or_earlier found earlier)
@@ -68,7 +70,7 @@ counts-more counts cs c kept within session = by (cases_eq c.session session)
         ∙ sym (count_of-more session cs c ∙ ap (λ b. count_of session cs + cond b 1 0) (false_from_ne_true (c.session == session) (λ t. other (eqb-true c.session session t))) ∙ omega arith)
 
 -- the documents behind one change more
-pub latest-more : (m n : BTreeMap (List ℕ) Kept) (cs : List Change) (c : Change) (w : Kept) (key : List ℕ) → ((name : List ℕ) → option_map tree_of (get (slice_cmp nat_cmp) m name) ≡ document_in cs name)
+pub latest-more : (m n : BTreeMap (List ℕ) Shared) (cs : List Change) (c : Change) (w : Shared) (key : List ℕ) → ((name : List ℕ) → option_map tree_of (get (slice_cmp nat_cmp) m name) ≡ document_in cs name)
     → ((name : List ℕ) → get (slice_cmp nat_cmp) n name ≡ cond (is_at (slice_cmp nat_cmp key) name) (Some w) (get (slice_cmp nat_cmp) m name))
     → key ≡ c.name → tree_of w ≡ c.tree → (name : List ℕ) → option_map tree_of (get (slice_cmp nat_cmp) n name) ≡ document_in (cs ++ c ∷ []) name
 latest-more m n cs c w key kept writes same tree name =
@@ -78,3 +80,14 @@ latest-more m n cs c w key kept writes same tree name =
     by : (b : Bool) → option_map tree_of (cond b (Some w) (get (slice_cmp nat_cmp) m name)) ≡ cond b (Some c.tree) (document_in cs name)
     by true = ap Some tree
     by false = kept name
+
+-- a change is made of these four
+pub same-change : (session count more : ℕ) (name given : List ℕ) (tree stored : Plain) → count ≡ more → given ≡ name → stored ≡ tree
+    → ◌≡◌ {A = Change} (record { session = session; count = count; name = given; tree = stored }) (record { session = session; count = more; name = name; tree = tree })
+same-change session count more name given tree stored a b d = cc
+
+-- the changes with their stores, and one more
+pub changes-grown : (before same after : List change_code.Change) (x : change_code.Change) (d : Change) → same ≡ before → after ≡ same ++ x ∷ [] → change_in x ≡ d
+    → map change_in after ≡ map change_in before ++ d ∷ []
+changes-grown before same after x d e more is =
+    ap (map change_in) (more ∙ ap (λ (cs : List change_code.Change). cs ++ x ∷ []) e) ∙ map-append change_in before (x ∷ []) ∙ ap (λ (c : Change). map change_in before ++ c ∷ []) is

@@ -1,6 +1,6 @@
 -- One command more: what it leaves, and that it was done.
-use Rattle.std.proofs.Common.{◌≡◌, ℕ, ◌+◌, ◌<◌, List, [], ◌∷◌, ◌++◌, Vec, Global, map, length, get_or, set, Some, sym, ap, ◌∙◌, append-nil}
-use Rattle.std.proofs.lemmas.List.{map-set, get_or-map}
+use Rattle.std.proofs.Common.{◌≡◌, ℕ, ◌+◌, ◌<◌, List, [], ◌∷◌, ◌++◌, Vec, Global, map, length, get_or, set, Some, sym, ap, ◌∙◌, append-nil, arith}
+use Rattle.std.proofs.lemmas.List.{length-map, map-set, get_or-map}
 use Rattle.tb_tree.specs.Plain.{Plain}
 use Rattle.tb_esis.specs.Reading.{IsReadAs}
 use Rattle.tb_script.specs.declared.command.Command.{Command}
@@ -11,13 +11,18 @@ use Rattle.tb_core.specs.declared.event.Event.TheVariants as event
 use Rattle.tb_top.specs.History.{Change, count_of}
 use Rattle.tb_top.specs.Deeds.{Record, loaded, event_of, change_by, IsResult}
 use Rattle.tb_top.specs.Transcript.{block_of}
-use Rattle.tb_top.specs.Running.{Progress, behind, Does}
+use Rattle.tb_top.specs.Running.{Progress, progress_of, behind, Stands, Does}
+use Rattle.tb_top.specs.declared.running.Running as running_code
 
 abbrev Part : Type 0
 Part = Vec ℕ Global
 
 abbrev texts : List Part → List (List ℕ)
 texts parts = map (λ part. part.items) parts
+
+-- a session that is there has its part
+pub part-within : (r : running_code.Running) (step : Turnstep) → Stands (progress_of r) step → step.session < length r.parts.items
+part-within r step stands = omega (arith, stands.session, stands.parts, length-map r.parts.items (λ part. part.items))
 
 -- one of the parts grows
 pub part-grows : (parts : List Part) (at : ℕ) (part new : Part) (more : List ℕ) → at < length parts → part ≡ get_or parts at part → new.items ≡ part.items ++ more

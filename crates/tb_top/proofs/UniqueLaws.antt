@@ -111,8 +111,8 @@ result-same w session cs one two (Load name lines) (refused f) (loaded k t) long
     absurd (let d : ◌≡◌ {A = Option EsisFault} None (Some f) = sym (read-clean lines t m2).0 ∙ m1 in cc)
 result-same w session cs one two (Load name lines) (refused f) (refused g) long b1 b2 a1 a2 m1 m2 = ap refused (same_Some f g (sym m1 ∙ m2))
 result-same w session cs one two (Query t) (answered f a) (answered g b) long b1 b2 a1 a2 m1 m2 =
-    let at_f = same_Some (length w.history) f (first-same (Some (length w.history)) (Some f) a1) in
-    let at_g = same_Some (length w.history) g (first-same (Some (length w.history)) (Some g) a2) in
+    let at_f = same_Some (length w.history) f (first-same (Some (length w.history)) (Some f) [] [] a1) in
+    let at_g = same_Some (length w.history) g (first-same (Some (length w.history)) (Some g) [] [] a2) in
     answer-same cs one two t f g a b b1 b2 (sym at_f ∙ long) (sym at_g ∙ long) m1 m2
 result-same w session cs one two (Query t) (refused_query f) (refused_query g) long b1 b2 a1 a2 m1 m2 = ap refused_query (refused-once t f g m1 m2)
 result-same w session cs one two (Query t) (answered f a) (refused_query g) long b1 b2 a1 a2 m1 m2 = absurd (never-both t g m1.faultless m2)

@@ -24,7 +24,7 @@ abbrev pub progress_of : running_code.Running → Progress
 progress_of r = record {
   world = r.world;
   changes = changes_in r.history;
-  sessions = length r.history.counts.items;
+  sessions = r.history.sessions;
   parts = map (λ part. part.items) r.parts.items;
 }
 

@@ -1,12 +1,13 @@
 //! The history of accepted loads, and the documents that it leaves.
 
-ghost use Rattle.std.specs.Prelude.{◌≡◌, ◌+◌, ◌<◌, ◌∷◌, ◌++◌, [], IfOk, OnOk, length, option_map};
+ghost use Rattle.std.specs.Prelude.{◌≡◌, ◌+◌, ◌<◌, ◌∷◌, ◌++◌, [], IfOk, OnOk, OnErr, length, option_map};
 ghost use Rattle.tb_tree.specs.View.{plain_of};
 ghost use Rattle.tb_top.specs.History.{count_of, document_in};
-ghost use Rattle.tb_top.specs.Kept.{changes_in, IsKept};
+ghost use Rattle.tb_top.specs.Kept.{changes_in};
 
 use std::alloc::{AllocError, Global};
 use std::collections::BTreeMap;
+use std::marker::Model;
 use std::sync::Arc;
 use tb_label::Store;
 use tb_tree::Bytes;
@@ -24,17 +25,30 @@ pub struct Change {
 /// The changes, the oldest first, the last one of each name, and how many each session made.
 #[derive(Drop)]
 pub struct History {
-    pub changes: Vec<Change>,
-    pub latest: BTreeMap<Bytes, Arc<Store>>,
-    pub counts: Vec<u32>,
+    changes: Vec<Change>,
+    latest: BTreeMap<Bytes, Arc<Store>>,
+    counts: Vec<u32>,
+}
+
+impl Model for History {
+    ghost use Rattle.std.specs.Prelude.{length, map};
+    ghost use Rattle.std.specs.Coded.{codes};
+    ghost use Rattle.tb_top.specs.contracts.history.Change as change_rows;
+    ghost use Rattle.tb_top.specs.Kept.{Kept, IsKept, change_in};
+
+    ghost Value = { Kept };
+
+    ghost coded = { Prim.hlevel (codes, change_rows.the_row.coded) };
+
+    ghost view = { λ h. record { changes = h.changes.items; sessions = length h.counts.items } };
+
+    ghost invariant = { λ h. IsKept (map change_in h.changes.items) h.latest h.counts.items };
 }
 
 impl History {
     /// A history without changes, of so many sessions.
     pub fn new(alloc: Global, sessions: usize) -> Result<History, AllocError>
-        ensures none { IfOk result (λ h. changes_in h ≡ []) }
-        ensures kept { IfOk result IsKept }
-        ensures sessions { IfOk result (λ h. length h.counts.items ≡ sessions) }
+        ensures { IfOk result (λ h. h ≡ record { changes = []; sessions = sessions }) }
     {
         Ok(History {
             changes: Vec::new(alloc),
@@ -43,9 +57,15 @@ impl History {
         })
     }
 
+    /// The changes, the oldest first.
+    pub fn changes(&self) -> &[Change]
+        ensures { result.now ≡ self.now.changes }
+    {
+        self.changes.as_slice()
+    }
+
     /// The document of a name, where one is loaded.
     pub fn find(&self, name: &Bytes) -> Option<&Store>
-        requires kept { IsKept self.now }
         ensures { option_map (λ store. plain_of store.now) result
             ≡ document_in (changes_in self.now) name.now }
     {
@@ -55,7 +75,7 @@ impl History {
         }
     }
 
-    /// Adds a change of the session.
+    /// Adds a change of the session. Memory is taken first, so that nothing is changed without it.
     pub fn add(
         &mut self,
         alloc: Global,
@@ -63,8 +83,7 @@ impl History {
         name: &Bytes,
         store: Store,
     ) -> Result<(), AllocError>
-        requires kept { IsKept self.old }
-        requires session { session < length self.old.counts.items }
+        requires session { session < self.old.sessions }
         requires few { length (changes_in self.old) < 65536 }
         ensures changes { OnOk result (changes_in self.new ≡ changes_in self.old ++ record {
           session = session;
@@ -72,21 +91,25 @@ impl History {
           name = name.now;
           tree = plain_of store;
         } ∷ []) }
-        ensures kept { OnOk result (IsKept self.new) }
-        ensures sessions { OnOk result
-            (length self.new.counts.items ≡ length self.old.counts.items) }
+        ensures sessions { self.new.sessions ≡ self.old.sessions }
+        ensures unchanged { OnErr result (self.new ≡ self.old) }
     {
         let count = self.counts[session as usize] + 1;
         let store = Arc::new(alloc, store)?;
         let latest = Arc::try_clone(&store)?;
-        self.latest.insert(name.copy(alloc)?, latest)?;
+        let key = name.copy(alloc)?;
         let name = name.copy(alloc)?;
-        self.changes.push(Change {
+        self.changes.try_reserve(1)?;
+        self.latest.insert(key, latest)?;
+        let change = Change {
             session,
             count,
             name,
             store,
-        })?;
+        };
+        let Ok(()) = self.changes.push(change) else {
+            unreachable!();
+        };
         self.counts[session as usize] = count;
         Ok(())
     }

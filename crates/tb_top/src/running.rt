@@ -15,7 +15,6 @@ ghost use Rattle.tb_top.specs.QueryFaults.{IsFaultOf};
 ghost use Rattle.tb_top.specs.Single.{IsBuilt, world_of};
 ghost use Rattle.std.specs.List.{range_with_len};
 ghost use Rattle.tb_top.specs.Running.{progress_of, at_start, begun, Stands, IsReadyFor, Does};
-ghost use Rattle.tb_top.specs.Kept.{IsKept};
 
 use crate::answering::push_answer;
 use crate::counts::loads_in;
@@ -46,12 +45,10 @@ pub struct Running {
 impl Running {
     /// Does a command.
     pub fn act(&mut self, step: Turnstep, command: &Command) -> Result<(), AllocError>
-        requires kept { IsKept self.old.history }
         requires stands { Stands (progress_of self.old) step }
         requires ready { IsReadyFor self.old.world command.now }
-        ensures does { OnOk result
+        ensures { OnOk result
             (Does step command.now (progress_of self.old) (progress_of self.new)) }
-        ensures kept { OnOk result (IsKept self.new.history) }
     {
         match command {
             Command::Load { name, lines } => self.load(step, name, lines.as_slice()),
@@ -62,12 +59,10 @@ impl Running {
     }
 
     fn load(&mut self, step: Turnstep, name: &Bytes, lines: &[u8]) -> Result<(), AllocError>
-        requires kept { IsKept self.old.history }
         requires stands { Stands (progress_of self.old) step }
         requires ready { IsReadyFor self.old.world (command.Load name.now lines.now) }
-        ensures does { OnOk result (Does step (command.Load name.now lines.now)
+        ensures { OnOk result (Does step (command.Load name.now lines.now)
             (progress_of self.old) (progress_of self.new)) }
-        ensures kept { OnOk result (IsKept self.new.history) }
     {
         match read_tree(self.alloc, lines) {
             Ok(tree) => self.accept(step, name, tree),
@@ -78,14 +73,12 @@ impl Running {
 
     /// Adds a document to the history.
     fn accept(&mut self, step: Turnstep, name: &Bytes, tree: Tree) -> Result<(), AllocError>
-        requires kept { IsKept self.old.history }
         requires stands { Stands (progress_of self.old) step }
         requires room { length self.old.world.history < self.old.world.room }
         requires nodes { count (plain_of tree) < 2 ^ 30 }
         requires levels { levels (one (plain_of tree)) ≤ 512 }
-        ensures does { OnOk result ((lines : List ℕ) → IsReadAs lines (plain_of tree)
+        ensures { OnOk result ((lines : List ℕ) → IsReadAs lines (plain_of tree)
             → Does step (command.Load name.now lines) (progress_of self.old) (progress_of self.new)) }
-        ensures kept { OnOk result (IsKept self.new.history) }
     {
         let store = Store::build(self.alloc, tree)?;
         let session = step.session;
@@ -97,11 +90,9 @@ impl Running {
     }
 
     fn refuse(&mut self, step: Turnstep, fault: &EsisFault) -> Result<(), AllocError>
-        requires kept { IsKept self.old.history }
         requires stands { Stands (progress_of self.old) step }
-        ensures does { OnOk result ((name lines : List ℕ) → fault_of lines ≡ Some fault.now
+        ensures { OnOk result ((name lines : List ℕ) → fault_of lines ≡ Some fault.now
             → Does step (command.Load name lines) (progress_of self.old) (progress_of self.new)) }
-        ensures kept { OnOk result (IsKept self.new.history) }
     {
         let part = &mut self.parts[step.session as usize];
         push_refused_line(number_in(step), fault, part)?;
@@ -109,12 +100,10 @@ impl Running {
     }
 
     fn query(&mut self, step: Turnstep, text: &[u8]) -> Result<(), AllocError>
-        requires kept { IsKept self.old.history }
         requires stands { Stands (progress_of self.old) step }
         requires ready { IsBuilt (command.Query text.now) }
-        ensures does { OnOk result
+        ensures { OnOk result
             (Does step (command.Query text.now) (progress_of self.old) (progress_of self.new)) }
-        ensures kept { OnOk result (IsKept self.new.history) }
     {
         match query_fault_in(self.alloc, text)? {
             Some(fault) => self.refuse_query(step, &fault),
@@ -123,11 +112,9 @@ impl Running {
     }
 
     fn refuse_query(&mut self, step: Turnstep, fault: &QueryFault) -> Result<(), AllocError>
-        requires kept { IsKept self.old.history }
         requires stands { Stands (progress_of self.old) step }
-        ensures does { OnOk result ((text : List ℕ) → IsFaultOf text (Some fault.now)
+        ensures { OnOk result ((text : List ℕ) → IsFaultOf text (Some fault.now)
             → Does step (command.Query text) (progress_of self.old) (progress_of self.new)) }
-        ensures kept { OnOk result (IsKept self.new.history) }
     {
         let part = &mut self.parts[step.session as usize];
         push_refused_query_line(number_in(step), fault, part)?;
@@ -136,13 +123,11 @@ impl Running {
 
     /// Answers a query whose text has no fault.
     fn answer(&mut self, step: Turnstep, text: &[u8]) -> Result<(), AllocError>
-        requires kept { IsKept self.old.history }
         requires stands { Stands (progress_of self.old) step }
         requires faultless { IsFaultOf text.now None }
         requires built { HasQuery text.now }
-        ensures does { OnOk result
+        ensures { OnOk result
             (Does step (command.Query text.now) (progress_of self.old) (progress_of self.new)) }
-        ensures kept { OnOk result (IsKept self.new.history) }
     {
         let Some(query) = query_in(text) else {
             unreachable!();
@@ -157,12 +142,10 @@ impl Running {
     }
 
     fn tell(&mut self, step: Turnstep, mark: u32, name: &[u8]) -> Result<(), AllocError>
-        requires kept { IsKept self.old.history }
         requires stands { Stands (progress_of self.old) step }
         requires ready { IsReadyFor self.old.world (command.Tell mark name.now) }
-        ensures does { OnOk result
+        ensures { OnOk result
             (Does step (command.Tell mark name.now) (progress_of self.old) (progress_of self.new)) }
-        ensures kept { OnOk result (IsKept self.new.history) }
     {
         let session = step.session;
         let front = number(&mut self.world, Event::Tell { session, mark });
@@ -172,12 +155,10 @@ impl Running {
     }
 
     fn hear(&mut self, step: Turnstep, mark: u32, name: &[u8]) -> Result<(), AllocError>
-        requires kept { IsKept self.old.history }
         requires stands { Stands (progress_of self.old) step }
         requires ready { IsReadyFor self.old.world (command.Hear mark name.now) }
-        ensures does { OnOk result
+        ensures { OnOk result
             (Does step (command.Hear mark name.now) (progress_of self.old) (progress_of self.new)) }
-        ensures kept { OnOk result (IsKept self.new.history) }
     {
         let session = step.session;
         let front = number(&mut self.world, Event::Hear { session, mark });
@@ -190,8 +171,7 @@ impl Running {
 /// What was done of the script before its first command.
 pub fn start(alloc: Global, w: &Workload) -> Result<Running, AllocError>
     requires runnable { IsRunnable w.now }
-    ensures start { IfOk result (λ r. progress_of r ≡ at_start w.now) }
-    ensures kept { IfOk result (λ r. IsKept r.history) }
+    ensures { IfOk result (λ r. progress_of r ≡ at_start w.now) }
 {
     let sessions = w.sessions.len();
     Ok(Running {

@@ -49,7 +49,7 @@ fn finish(alloc: Global, running: Running) -> Result<Vec<Vec<u8>>, AllocError>
     let Running { history, parts, .. } = running;
     let mut pieces = Pieces::new(alloc);
     add_parts(parts, &mut pieces)?;
-    pieces.add(history_text(alloc, &history.changes)?)?;
+    pieces.add(history_text(alloc, history.changes())?)?;
     let pieces = pieces.all()?;
     Ok(pieces)
 }

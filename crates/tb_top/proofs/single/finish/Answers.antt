@@ -11,5 +11,5 @@ returns c =
     let parts = c.args.running.parts.items in
     let end = λ (part : List ℕ). part ++ codes "end\n" in
     c.in_ok-pieces.ensures ∙ c.in_ok-add.ensures ∙ ap₂ (λ a b. a ++ b) (c.in_ok-add_parts.ensures ∙ ap (λ t. t ++ flat_map (λ part. part.items ++ codes "end\n") parts) c.new-pieces.ensures)
-    (c.in_ok-history_text.ensures ∙ ap (λ cs. history_part (map change_in cs)) c.deref.ensures.value)
-    ∙ ap (λ l. l ++ history_part (map change_in c.args.running.history.changes.items)) (sym (flat_map-map end (λ part. part.items) parts))
+    (c.in_ok-history_text.ensures ∙ ap (λ cs. history_part (map change_in cs)) c.changes.ensures)
+    ∙ ap (λ l. l ++ history_part (map change_in c.args.running.history.changes)) (sym (flat_map-map end (λ part. part.items) parts))

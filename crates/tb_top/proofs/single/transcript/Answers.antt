@@ -16,11 +16,10 @@ first = record { session = 0; command = 0 }
 pub steps-init : goal.steps-init
 steps-init c =
     let w = c.args.w.now in
-    let start = c.in_ok-running.ensures.start in
+    let start = c.in_ok-running.ensures in
     let items = c.deref-step-items.ensures.value ∙ c.in_ok-steps.ensures in (
       subst (Done w []) (sym start) (done-start w),
       subst (λ (s : List Turnstep). Goes w s (progress_of c.in_ok-running.running)) (sym items) (subst (Goes w (schedule_of (commands_in w))) (sym start) (goes-start w c.requires.runnable c.requires.built)),
-      c.in_ok-running.ensures.kept,
     )
 
 pub steps-preserved : goal.steps-preserved
@@ -33,10 +32,9 @@ steps-preserved c =
     let q = progress_of c.act.new.self in
     let goes = subst (λ (s : List Turnstep). Goes w s p) (drop_more steps i first c.steps-test.true) c.steps.invariant.1 in
     let is = c.command_at-command.ensures in
-    let does = c.in_ok-act.ensures.does in (
+    let does = c.in_ok-act.ensures in (
       subst (λ (s : List Turnstep). Done w s q) (sym (take_more steps i first c.steps-test.true)) (done-more w (take i steps) p q step _ c.steps.invariant.0 is (goes-ready w (drop (i + 1) steps) p step _ goes is).0.session does),
       goes-more w (drop (i + 1) steps) p q step _ goes is does,
-      c.in_ok-act.ensures.kept,
     )
 
 pub returns : goal.returns

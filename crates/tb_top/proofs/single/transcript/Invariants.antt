@@ -1,11 +1,10 @@
 -- The commands so far are done, and those that are left can be done.
 use Rattle.std.proofs.Common.{take, drop}
 use Rattle.tb_top.specs.Running.{progress_of}
-use Rattle.tb_top.specs.Kept.{IsKept}
 use Rattle.tb_top.proofs.DoneLaws.{Done}
 use Rattle.tb_top.proofs.ReadyLaws.{Goes}
 use Rattle.tb_top.proofs.single.transcript.Given as goal
 
 abbrev pub invariant-steps : goal.invariant-steps
 invariant-steps l =
-    Done l.w (take l.step-index l.step-items) (progress_of l.running) × Goes l.w (drop l.step-index l.step-items) (progress_of l.running) × IsKept l.running.history
+    Done l.w (take l.step-index l.step-items) (progress_of l.running) × Goes l.w (drop l.step-index l.step-items) (progress_of l.running)

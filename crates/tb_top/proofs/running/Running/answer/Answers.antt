@@ -1,6 +1,6 @@
 -- The query of a text is answered over the document that it names.
 use Rattle.std.proofs.Common.{◌≡◌, ℕ, ◌<◌, ◌++◌, ◌∷◌, [], length, Option, Some, None, refl, sym, ap, ◌∙◌, arith}
-use Rattle.std.proofs.lemmas.List.{length-map, take_all}
+use Rattle.std.proofs.lemmas.List.{take_all}
 use Rattle.std.specs.Option.{option_map}
 use Rattle.tb_tree.specs.View.{plain_of}
 use Rattle.tb_script.specs.declared.command.Command.TheVariants as command
@@ -13,7 +13,7 @@ use Rattle.tb_top.specs.Transcript.{query_block}
 use Rattle.tb_top.specs.Running.{progress_of}
 use Rattle.tb_top.specs.Kept.{changes_in}
 use Rattle.tb_top.proofs.QueryLaws.{query_in-text, query_in-some}
-use Rattle.tb_top.proofs.RunningLaws.{part-grows, does-look}
+use Rattle.tb_top.proofs.RunningLaws.{part-grows, does-look, part-within}
 use Rattle.tb_top.proofs.running.Running.answer.Goals as goal
 
 pub unreachable-requires : goal.unreachable-requires
@@ -28,15 +28,15 @@ push_answer-requires-clause-first c = (query_in-some c.args.text.now (query_by c
 pub push_answer-requires-clause-second : goal.push_answer-requires-clause-second
 push_answer-requires-clause-second c = (query_in-some c.args.text.now (query_by c.in-Some.query) (sym c.in-Some.ensures)).second
 
-pub returns-clause-does : goal.returns-clause-does
-returns-clause-does c =
+pub returns : goal.returns
+returns c =
     let old = c.args.self.now in
     let parts = old.parts.items in
     let stands = c.requires.stands in
     let changes = changes_in old.history in
     let q = query_by c.in-Some.query in
     let front = c.number-front.result in
-    let within : c.args.step.session < length parts = omega (arith, stands.session, stands.parts, length-map parts (λ part. part.items)) in
+    let within = part-within old c.args.step stands in
     let number : ◌≡◌ {A = Option ℕ} (Some (length old.world.history)) (Some front) = c.number-front.ensures.answer in
     let all : length old.world.history ≡ front = cc in
     let name = c.from_vec-name.ensures ∙ c.in_ok-to_vec.ensures.items_if_clones_equal (λ x y e. e) in

@@ -13,7 +13,7 @@ told : {P Q : Type 0} (r : Result (Unit {0}) AllocError) → (P → Q) → OnOk 
 told (Ok done) f is = f is
 told (Err none) f is = is
 
-pub returns-in-Some-clause-does : goal.returns-in-Some-clause-does
-returns-in-Some-clause-does c =
+pub returns-in-Some : goal.returns-in-Some
+returns-in-Some c =
     let refused = subst (IsFaultOf c.args.text.now) c.in-Some.is c.in_ok-fault.ensures in
-    told c.refuse_query.result (λ does. does c.args.text.now refused) c.refuse_query.ensures.does
+    told c.refuse_query.result (λ does. does c.args.text.now refused) c.refuse_query.ensures

@@ -1,19 +1,18 @@
 -- The session's part grows by the line of the refusal.
 use Rattle.std.proofs.Common.{◌<◌, ◌++◌, length, refl, ap, ◌∙◌, arith}
-use Rattle.std.proofs.lemmas.List.{length-map}
 use Rattle.tb_script.specs.declared.command.Command.TheVariants as command
 use Rattle.tb_top.specs.Deeds.{refused}
 use Rattle.tb_top.specs.Transcript.{refused_line}
 use Rattle.tb_top.specs.Running.{progress_of}
-use Rattle.tb_top.proofs.RunningLaws.{part-grows, does-look}
+use Rattle.tb_top.proofs.RunningLaws.{part-grows, does-look, part-within}
 use Rattle.tb_top.proofs.running.Running.refuse.Goals as goal
 
-pub returns-clause-does : goal.returns-clause-does
-returns-clause-does c name lines wrong =
+pub returns : goal.returns
+returns c name lines wrong =
     let old = c.args.self.now in
     let parts = old.parts.items in
     let stands = c.requires.stands in
-    let within : c.args.step.session < length parts = omega (arith, stands.session, stands.parts, length-map parts (λ part. part.items)) in
+    let within = part-within old c.args.step stands in
     does-look c.args.step (command.Load name lines) (refused c.args.fault.now) (progress_of old) _ refl refl wrong refl refl refl
     (part-grows parts c.args.step.session c.index_mut-part.result.now c.push_refused_line.new.text _ within c.index_mut-part.ensures.value
     (c.in_ok-push_refused_line.ensures ∙ ap (λ n. c.index_mut-part.result.now.items ++ refused_line n c.args.fault.now) c.number_in.ensures))

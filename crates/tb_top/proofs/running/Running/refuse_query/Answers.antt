@@ -1,19 +1,18 @@
 -- The session's part grows by the line of the refusal.
 use Rattle.std.proofs.Common.{◌<◌, ◌++◌, length, refl, ap, ◌∙◌, arith}
-use Rattle.std.proofs.lemmas.List.{length-map}
 use Rattle.tb_script.specs.declared.command.Command.TheVariants as command
 use Rattle.tb_top.specs.Deeds.{refused_query}
 use Rattle.tb_top.specs.Transcript.{refused_query_line}
 use Rattle.tb_top.specs.Running.{progress_of}
-use Rattle.tb_top.proofs.RunningLaws.{part-grows, does-look}
+use Rattle.tb_top.proofs.RunningLaws.{part-grows, does-look, part-within}
 use Rattle.tb_top.proofs.running.Running.refuse_query.Goals as goal
 
-pub returns-clause-does : goal.returns-clause-does
-returns-clause-does c text wrong =
+pub returns : goal.returns
+returns c text wrong =
     let old = c.args.self.now in
     let parts = old.parts.items in
     let stands = c.requires.stands in
-    let within : c.args.step.session < length parts = omega (arith, stands.session, stands.parts, length-map parts (λ part. part.items)) in
+    let within = part-within old c.args.step stands in
     does-look c.args.step (command.Query text) (refused_query c.args.fault.now) (progress_of old) _ refl refl wrong refl refl refl
     (part-grows parts c.args.step.session c.index_mut-part.result.now c.push_refused_query_line.new.text _ within c.index_mut-part.ensures.value
     (c.in_ok-push_refused_query_line.ensures ∙ ap (λ n. c.index_mut-part.result.now.items ++ refused_query_line n c.args.fault.now) c.number_in.ensures))
