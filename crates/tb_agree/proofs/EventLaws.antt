@@ -1,11 +1,11 @@
 -- The variables of a query's tokens are those of its tree.
 use Rattle.std.proofs.Common.{◌≡◌, ℕ, Bool, true, false, cond, ◌&&◌, ◌==◌, List, [], ◌∷◌, ◌++◌, map, Some, refl, sym, ap, ◌∙◌, append_assoc, append-nil}
 use Rattle.std.specs.Prelude.{codes}
-use Rattle.std.proofs.lemmas.Bool.{and_parts}
+use Rattle.std.proofs.lemmas.Bool.{and_parts, or_parts}
 use Rattle.tb_token.specs.grammar.Grammar.{Tok, Part, one, both, either, maybe, many, has}
 use Rattle.tb_token.specs.grammar.Words.{Tree, leaf, pair, first, second, Derives}
 use Rattle.tb_token.specs.grammar.Decided.{are_apart}
-use Rattle.tb_token.proofs.grammar.LetterLaws.{none-true, or-false, has-left, has-right, apart-none}
+use Rattle.tb_token.proofs.grammar.LetterLaws.{none-true, has-left, has-right, apart-none}
 use Rattle.tb_token.specs.tokens.Letters.{letter_of}
 use Rattle.tb_token.specs.grammar.Terminals.{word, sign, name, string, comma}
 use Rattle.tb_token.specs.grammar.Patterns.{literal}
@@ -99,7 +99,7 @@ abbrev binders : List ℕ
 binders = letter_of Word (codes "IN") ∷ letter_of Word (codes "ALLOWING") ∷ letter_of Sign (codes ":=") ∷ []
 
 no-variable : (c : List ℕ) (t : Tok) → are_apart c vars ≡ true → has c t.letter ≡ true → is_variable t.letter ≡ false
-no-variable c t apart h = swapped t.letter (letter_of Variable []) ∙ (or-false (letter_of Variable [] == t.letter) false (apart-none c vars t.letter apart h)).0
+no-variable c t apart h = swapped t.letter (letter_of Variable []) ∙ (or_parts (letter_of Variable [] == t.letter) false (apart-none c vars t.letter apart h)).0
 
 free-at : (c : List ℕ) (t : Tok) (s : List Tok) → are_apart c vars ≡ true → are_apart c binders ≡ true → has c t.letter ≡ true → Free (t ∷ s)
 free-at c t s apart other h = (no-variable c t apart h, apart-none c binders t.letter other h)

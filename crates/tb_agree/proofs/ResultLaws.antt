@@ -2,11 +2,11 @@
 -- other such word is a name, directly behind an axis or `@`.
 use Rattle.std.proofs.Common.{◌≡◌, ℕ, true, false, cond, ◌&&◌, ◌||◌, ◌==◌, not, List, [], ◌∷◌, ◌++◌, refl, ap, ◌∙◌, append_assoc, append-nil}
 use Rattle.std.specs.Prelude.{codes}
-use Rattle.std.proofs.lemmas.Bool.{and_parts}
+use Rattle.std.proofs.lemmas.Bool.{and_parts, or_parts}
 use Rattle.tb_token.specs.grammar.Grammar.{Tok, Part, both, either, maybe, many, has}
 use Rattle.tb_token.specs.grammar.Words.{Tree, leaf, pair}
 use Rattle.tb_token.specs.grammar.Decided.{are_apart}
-use Rattle.tb_token.proofs.grammar.LetterLaws.{none-true, or-false, and-false, has-left, has-right, apart-none}
+use Rattle.tb_token.proofs.grammar.LetterLaws.{none-true, and-false, has-left, has-right, apart-none}
 use Rattle.tb_token.specs.tokens.Letters.{letter_of}
 use Rattle.tb_token.specs.grammar.Terminals.{word, comma}
 use Rattle.tb_token.specs.grammar.Patterns.{test, literal}
@@ -46,7 +46,7 @@ calm-pair v w f g rest = ap (behind_return 0) (append_assoc (tokens_of v) (token
 -- a token that is neither the word nor a sign before names
 calm-leaf : (c : List ℕ) (t : Tok) → are_apart c special ≡ true → has c t.letter ≡ true → Calm (leaf t)
 calm-leaf c t apart h rest =
-    let none = or-false (letter_of Word (codes "RETURN") == t.letter) (has name_signs t.letter) (apart-none c special t.letter apart h) in
+    let none = or_parts (letter_of Word (codes "RETURN") == t.letter) (has name_signs t.letter) (apart-none c special t.letter apart h) in
     let other = swapped t.letter (letter_of Word (codes "RETURN")) ∙ none.0 in
     ap (λ x. cond (x && true) rest (behind_return t.letter rest)) other ∙ same-before t.letter rest none.1
 
@@ -74,7 +74,7 @@ name-leaf c t apart h b rest e =
 sign-leaf : (c : List ℕ) (t : Tok) (w : Tree) → (has c t.letter ≡ true → has name_signs t.letter ≡ true) → are_apart c (letter_of Word (codes "RETURN") ∷ []) ≡ true → has c t.letter ≡ true → CalmName w
     → (b : ℕ) (rest : List Tok) → behind_return b (t ∷ tokens_of w ++ rest) ≡ behind_return 0 rest
 sign-leaf c t w among apart h is b rest =
-    let none = or-false (letter_of Word (codes "RETURN") == t.letter) false (flip) in
+    let none = or_parts (letter_of Word (codes "RETURN") == t.letter) false (flip) in
     let other = swapped t.letter (letter_of Word (codes "RETURN")) ∙ none.0 in
     ap (λ x. cond (x && not (before_name b)) (tokens_of w ++ rest) (behind_return t.letter (tokens_of w ++ rest))) other
     ∙ is t.letter rest (among h)

@@ -5,7 +5,7 @@ use Rattle.std.specs.Option.{unwrap_or}
 use Rattle.tb_token.specs.grammar.Grammar.{Tok, Part, both, maybe, many, has}
 use Rattle.tb_token.specs.grammar.Words.{Tree, leaf, nothing, pair, second, by_one, by_both, by_second, left_out, put_in}
 use Rattle.tb_token.proofs.grammar.PlaceLaws.{read-both, read-second, read-put_in, read-left_out, read-one}
-use Rattle.tb_token.proofs.grammar.LetterLaws.{none-true}
+use Rattle.tb_token.proofs.grammar.LetterLaws.{none-true, has-only}
 use Rattle.tb_number.specs.IntText.{signed, number_of}
 use Rattle.tb_number.specs.Range.{is_in_range, within_range}
 use Rattle.tb_token.specs.tokens.Kinds.{is_number}
@@ -16,7 +16,7 @@ use Rattle.tb_pattern.specs.Faults.{is_none, literal_in}
 use Rattle.tb_token.specs.tokens.LetterNames.{is_sign}
 use Rattle.tb_token.specs.tokens.LetterNames as letters
 use Rattle.tb_pattern.specs.Value.{bytes_in, inside, op_of, literal_of, conds_from, more_conds_of, conds_of}
-use Rattle.tb_pattern.specs.Building.{next, begins, Come, IsBuilt, Builds, BuildsApart}
+use Rattle.tb_pattern.specs.Building.{next, Next, begins, Come, IsBuilt, Builds, BuildsApart}
 use Rattle.tb_pattern.specs.BuiltParts.{number_or_zero, one_cond, IsLiteral, IsCond, AreConds}
 use Rattle.tb_pattern.specs.declared.cond.Cond.{Cond}
 use Rattle.tb_pattern.specs.declared.cond.Literal.{Literal}
@@ -24,14 +24,6 @@ use Rattle.tb_pattern.specs.declared.cond.Literal.TheVariants as a
 use Rattle.tb_pattern.proofs.LiteralLaws.{literal-number}
 use Rattle.tb_pattern.proofs.BuildingLaws.{some-none, false-true, numbers-next, come-next, come-as, wrong-letter, one-builds, Both, both-builds, builds-as, First, first-builds, put_in-builds, left_out-builds}
 use Rattle.tb_pattern.proofs.ListLaws.{IsList, BuildsList, list-first, list-next, list-end}
-
--- a letter that is the only one
-one-letter : (c x : ℕ) → has (c ∷ []) x ≡ true → x ≡ c
-one-letter c x h = by (c == x) refl h
-  where
-    by : (is : Bool) → (c == x) ≡ is → (is || false) ≡ true → x ≡ c
-    by true e f = sym (eqb-true c x e)
-    by false e f = false-true f
 
 -- A number is the one that its tree stands for, since it is within the range.
 
@@ -62,7 +54,7 @@ number-built minus (t ∷ u) ps come = by (has (letters.NUMBER ∷ []) t.letter)
   where
     by : (is : Bool) → has (letters.NUMBER ∷ []) t.letter ≡ is → IsBuilt number (IsNumber minus (t ∷ u)) ps (t ∷ u) u
     by true h =
-        let letter = one-letter letters.NUMBER t.letter h in
+        let letter = has-only letters.NUMBER t.letter h in
         let fits : is_none (literal_in minus t.bytes) ≡ false = rw letter at (numbers-next minus t u come.numbers).0 in
         record {
           minus = is_sign (codes "-") t.letter;
@@ -87,9 +79,6 @@ signed_part = both (maybe (sign (codes "-"))) number
 abbrev and_letter : List ℕ
 and_letter = letters.AND ∷ []
 
-abbrev Next : List Tok → Tree → Type 0
-Next s v = v ≡ next s
-
 pub literal-text : (s : List Tok) → begins quote_letter s ≡ true → Builds literal (IsLiteral (a.Text (inside (bytes_in (next s))))) s (drop 1 s)
 literal-text s e =
     builds-as literal (First (Next s)) (IsLiteral (a.Text (inside (bytes_in (next s))))) s (drop 1 s)
@@ -100,7 +89,7 @@ pub literal-minus : (s : List Tok) → begins quote_letter s ≡ false → begin
     → Builds literal (IsLiteral (number_or_zero true (bytes_in (next (drop 1 s))))) s (drop 1 (drop 1 s))
 literal-minus [] e f ps minus come = false-true f
 literal-minus (t ∷ u) e f ps minus come =
-    let letter = one-letter letters.MINUS t.letter f in
+    let letter = has-only letters.MINUS t.letter f in
     let reads = read-second rules string signed_part t u ps e ∙ read-both rules (maybe (sign (codes "-"))) number (t ∷ u) ps
     ∙ read-put_in rules (sign (codes "-")) t u (number ∷ ps) f ∙ read-one rules minus_letter t u (number ∷ ps) f in
     let behind = come-next minus (literal ∷ ps) (number ∷ ps) t u come reads in

@@ -10,7 +10,7 @@ use Rattle.tb_tree.specs.declared.node_test.Test.{Test}
 use Rattle.tb_pattern.specs.Plain.{PlainEdges, no_edges}
 use Rattle.tb_pattern.specs.Value.{is_there, axis_of, mark_of, edges_from, more_edges_in, edges_behind, edges_in}
 use Rattle.tb_pattern.specs.View.{edge_of, edges_of}
-use Rattle.tb_pattern.specs.Building.{next, begins, Builds}
+use Rattle.tb_pattern.specs.Building.{next, Next, begins, Builds}
 use Rattle.tb_pattern.specs.BuiltParts.{IsTest, AreConds, put, IsEdge, bang, IsWhole, edges_before, AreEdges, AreBelow}
 use Rattle.tb_pattern.specs.declared.cond.Cond.{Cond}
 use Rattle.tb_pattern.specs.declared.pattern.Edge.{Edge, roll-Edge}
@@ -18,9 +18,6 @@ use Rattle.tb_pattern.specs.declared.pattern.PNode.{PNode, roll-PNode}
 use Rattle.tb_pattern.proofs.Views.{edge_of-Edge, pattern_at-PNode}
 use Rattle.tb_pattern.proofs.BuildingLaws.{false-true, one-builds, Both, both-builds, builds-as, put_in-builds, left_out-builds, Opened, rule-builds}
 use Rattle.tb_pattern.proofs.ListLaws.{IsList, BuildsList, list-first, list-next, list-end}
-
-abbrev Next : List Tok → Tree → Type 0
-Next s v = v ≡ next s
 
 abbrev bang_letter : List ℕ
 bang_letter = letters.BANG ∷ []

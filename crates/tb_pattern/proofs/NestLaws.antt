@@ -7,7 +7,7 @@ use Rattle.tb_span.specs.declared.item.Axis.TheVariants.{Child}
 use Rattle.tb_tree.specs.declared.node_test.Test.TheVariants.{Name}
 use Rattle.tb_token.specs.grammar.Grammar.{Tok, Part, both, maybe, many, has}
 use Rattle.tb_token.specs.grammar.Words.{Tree, leaf, nothing, pair, first, second, Derives, at_end, by_one, by_both, by_first, by_second, left_out, put_in, no_more, one_more, by_rule}
-use Rattle.tb_token.proofs.grammar.LetterLaws.{none-true, apart-none}
+use Rattle.tb_token.proofs.grammar.LetterLaws.{none-true, has-only, apart-none}
 use Rattle.tb_token.specs.grammar.Terminals.{comma}
 use Rattle.tb_token.specs.grammar.Patterns.{edges, edge, match_query}
 use Rattle.tb_token.specs.grammar.Queries.{rules}
@@ -72,21 +72,14 @@ most-from depth (x ∷ xs) = omega arith
 abbrev brackets : List ℕ
 brackets = letters.OPEN ∷ letters.CLOSE ∷ []
 
-only-letter : (c x : ℕ) → has (c ∷ []) x ≡ true → x ≡ c
-only-letter c x is = by (c == x) refl is
-  where
-    by : (same : Bool) → (c == x) ≡ same → (same || false) ≡ true → x ≡ c
-    by true e same = sym (eqb-true c x e)
-    by false e same = none-true false refl same
-
 -- a letter that is no bracket opens and closes none
 none-behind : (depth x : ℕ) → has brackets x ≡ false → open_behind depth x ≡ depth
 none-behind depth x none = by (has (letters.OPEN ∷ []) x) (has (letters.CLOSE ∷ []) x) refl refl
   where
     by : (opens closes : Bool) → has (letters.OPEN ∷ []) x ≡ opens → has (letters.CLOSE ∷ []) x ≡ closes
         → cond opens (depth + 1) (cond closes (depth - 1) depth) ≡ depth
-    by true closes e f = none-true (has brackets x) none (ap (has brackets) (only-letter letters.OPEN x e))
-    by false true e f = none-true (has brackets x) none (ap (has brackets) (only-letter letters.CLOSE x f))
+    by true closes e f = none-true (has brackets x) none (ap (has brackets) (has-only letters.OPEN x e))
+    by false true e f = none-true (has brackets x) none (ap (has brackets) (has-only letters.CLOSE x f))
     by false false e f = refl
 
 quiet-letter : (depth x : ℕ) (rest : List ℕ) → has brackets x ≡ false → most_open depth (x ∷ rest) ≡ most_open depth rest
@@ -111,12 +104,12 @@ quiet-open (of_more {w = w} f g) e depth rest = quiet-open f e depth (leaves w r
 quiet-open (of_rule h f) e depth rest = none-true false refl e
 
 letter-opens : (depth x : ℕ) (rest : List ℕ) → has (letters.OPEN ∷ []) x ≡ true → most_open depth (x ∷ rest) ≡ max depth (most_open (depth + 1) rest)
-letter-opens depth x rest is = ap (λ y. most_open depth (y ∷ rest)) (only-letter letters.OPEN x is)
+letter-opens depth x rest is = ap (λ y. most_open depth (y ∷ rest)) (has-only letters.OPEN x is)
 
 letter-closes : (depth x : ℕ) (rest : List ℕ) → has (letters.CLOSE ∷ []) x ≡ true → most_open (depth + 1) (x ∷ rest) ≡ max (depth + 1) (most_open depth rest)
 letter-closes depth x rest is =
     let back : depth + 1 - 1 ≡ depth = omega arith in
-    ap (λ y. most_open (depth + 1) (y ∷ rest)) (only-letter letters.CLOSE x is)
+    ap (λ y. most_open (depth + 1) (y ∷ rest)) (has-only letters.CLOSE x is)
     ∙ ap (λ n. max (depth + 1) (most_open n rest)) back
 
 edge-levels : {v : Tree} → Of edge v → (behind : PlainEdges) → 1 ≤ levels (edges_from v behind)

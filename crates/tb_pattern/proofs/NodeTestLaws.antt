@@ -9,7 +9,7 @@ use Rattle.tb_token.specs.tokens.LetterNames as letters
 use Rattle.tb_tree.specs.declared.node_test.Test.{Test}
 use Rattle.tb_tree.specs.declared.node_test.Test.TheVariants.{Name, AnyElement, AttrName, AnyAttr, AnyText}
 use Rattle.tb_pattern.specs.Value.{bytes_in, test_of}
-use Rattle.tb_pattern.specs.Building.{next, begins, Builds}
+use Rattle.tb_pattern.specs.Building.{next, Next, begins, Builds}
 use Rattle.tb_pattern.specs.BuiltParts.{attribute, IsAttribute, IsTest}
 use Rattle.tb_pattern.proofs.BuildingLaws.{First, Second, Both, one-builds, both-builds, builds-as, first-builds, second-builds}
 
@@ -30,9 +30,6 @@ attr_or_text = either attr_test text_test
 
 abbrev no_name : Part
 no_name = either (sign (codes "*")) attr_or_text
-
-abbrev Next : List Tok → Tree → Type 0
-Next s v = v ≡ next s
 
 module _ (s : List Tok) where
   -- The next token is the name, or what stands in its place.

@@ -5,32 +5,22 @@ use Rattle.tb_token.specs.grammar.Grammar.{Tok, both}
 use Rattle.tb_token.specs.grammar.Words.{Tree, pair, Derives, at_end}
 use Rattle.tb_token.specs.grammar.Reading.{read}
 use Rattle.tb_token.proofs.grammar.ReadLaws.{read-wrong}
-use Rattle.tb_token.specs.tokens.Letters.{letter_of, HaveDigits}
+use Rattle.tb_token.specs.tokens.Letters.{HaveDigits}
 use Rattle.tb_token.specs.grammar.Terminals.{word, sign, string}
 use Rattle.tb_token.specs.grammar.Patterns.{doc, edges, edges_rest, match_query}
 use Rattle.tb_token.specs.grammar.Queries.{rules, follow}
 use Rattle.tb_token.proofs.grammar.QueryLaws.{readable}
-use Rattle.tb_token.specs.declared.lexer.token.Kind.TheVariants.{Word, Sign}
 use Rattle.tb_token.specs.tokens.LetterNames as letters
 use Rattle.tb_pattern.specs.Syntax.{AreMatch}
 use Rattle.tb_pattern.specs.Faults.{HasNoFault}
 use Rattle.tb_pattern.specs.Plain.{PlainEdges}
 use Rattle.tb_pattern.specs.Value.{inside, bytes_in, document_of, pattern_of, AskFor}
 use Rattle.tb_pattern.specs.View.{edges_of}
-use Rattle.tb_pattern.specs.Building.{next, Come, Builds}
+use Rattle.tb_pattern.specs.Building.{next, Next, Come, Builds}
 use Rattle.tb_pattern.specs.BuiltParts.{AreEdges, AreBelow}
 use Rattle.tb_pattern.specs.declared.pattern.Edge.{Edge}
 use Rattle.tb_pattern.proofs.BuildingLaws.{some-none, one-builds, Both, both-builds, builds-as}
 use Rattle.tb_pattern.proofs.EdgeLaws.{rest-builds}
-
-abbrev Next : List Tok → Tree → Type 0
-Next s v = v ≡ next s
-
-abbrev letter : List ℕ → List ℕ
-letter text = letter_of Sign text ∷ []
-
-abbrev word_letter : List ℕ → List ℕ
-word_letter text = letter_of Word text ∷ []
 
 -- a query of this document and these edges
 record Query (document : List ℕ) (es : PlainEdges) (v : Tree) : Type 0 where
@@ -82,15 +72,15 @@ module _ (s : List Tok) (es : List Edge) (left : List Tok) where
   query-builds : Builds edges_rest (AreEdges es) (drop 1 s5) left → Builds match_query (Query (inside (bytes_in (next s3))) (edges_of es)) s left
   query-builds rest_is =
       builds-as match_query (Both (Next s) Behind) (Query (inside (bytes_in (next s3))) (edges_of es)) s left query-is
-      (both-builds (word (codes "MATCH")) (both doc edges) (Next s) Behind s s1 left (one-builds (word_letter (codes "MATCH")) s)
+      (both-builds (word (codes "MATCH")) (both doc edges) (Next s) Behind s s1 left (one-builds (letters.MATCH ∷ []) s)
       (both-builds doc edges Doc (AreBelow es) s1 s5 left
-      (both-builds (word (codes "DOCUMENT")) (both (sign (codes "(")) (both string (sign (codes ")")))) (Next s1) Open s1 s2 s5 (one-builds (word_letter (codes "DOCUMENT")) s1)
-      (both-builds (sign (codes "(")) (both string (sign (codes ")"))) (Next s2) Close s2 s3 s5 (one-builds (letter (codes "(")) s2)
-      (both-builds string (sign (codes ")")) (Next s3) (Next s4) s3 s4 s5 (one-builds (letters.QUOTED ∷ []) s3) (one-builds (letter (codes ")")) s4))))
+      (both-builds (word (codes "DOCUMENT")) (both (sign (codes "(")) (both string (sign (codes ")")))) (Next s1) Open s1 s2 s5 (one-builds (letters.DOCUMENT ∷ []) s1)
+      (both-builds (sign (codes "(")) (both string (sign (codes ")"))) (Next s2) Close s2 s3 s5 (one-builds (letters.OPEN ∷ []) s2)
+      (both-builds string (sign (codes ")")) (Next s3) (Next s4) s3 s4 s5 (one-builds (letters.QUOTED ∷ []) s3) (one-builds (letters.CLOSE ∷ []) s4))))
       (rest-builds es s5 left rest_is)))
 
 -- a reading that ends with no part left has no token left
-nothing-left : (s : List Tok) → read rules s (Some []) ≡ None → s ≡ []
+pub nothing-left : (s : List Tok) → read rules s (Some []) ≡ None → s ≡ []
 nothing-left [] e = refl
 nothing-left (t ∷ u) e = some-none e
 

@@ -6,7 +6,7 @@ use Rattle.tb_token.specs.grammar.Words.{Tree, leaf, nothing, pair, first, secon
 use Rattle.tb_token.proofs.grammar.TreeLaws.{one-tree}
 use Rattle.tb_token.specs.tokens.Letters.{letter_of}
 use Rattle.tb_token.specs.grammar.Queries.{rules, follow}
-use Rattle.tb_token.proofs.grammar.QueryLaws.{readable}
+use Rattle.tb_token.proofs.grammar.QueryLaws.{readable, first-tree}
 use Rattle.tb_token.specs.declared.lexer.token.Kind.{Kind}
 use Rattle.tb_token.specs.declared.lexer.token.Kind.TheVariants as kind
 use Rattle.tb_span.specs.declared.item.Axis.TheVariants.{Child, Descendant}
@@ -16,9 +16,6 @@ use Rattle.tb_pattern.specs.declared.pattern.Mark.TheVariants as mark
 use Rattle.tb_pattern.specs.declared.cond.Literal.TheVariants as literal
 use Rattle.tb_pattern.specs.Plain.{matching, PlainEdges, no_edges, edge}
 use Rattle.tb_pattern.specs.Value.{document_of, pattern_of, edges_in, AskFor}
-
-first-tree : (v w : Tree) → (v ∷ []) ≡ (w ∷ []) → v ≡ w
-first-tree v w e = cc
 
 -- the pattern of a query is one
 pub one-pattern : (s : List Tok) (d e : List ℕ) (es fs : PlainEdges) → AskFor s d es → AskFor s e fs → (d ≡ e) × (es ≡ fs)

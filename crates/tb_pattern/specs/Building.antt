@@ -12,6 +12,9 @@ abbrev pub next : List Tok → Tree
 next [] = nothing
 next (t ∷ s) = leaf t
 
+abbrev pub Next : List Tok → Tree → Type 0
+Next s v = v ≡ next s
+
 -- there is a next token, and its letter is among these
 abbrev pub begins : List ℕ → List Tok → Bool
 begins cs [] = false

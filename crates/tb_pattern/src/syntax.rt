@@ -3,8 +3,7 @@
 ghost use Rattle.std.specs.Prelude.{◌≤◌, IfOk, length};
 ghost use Rattle.tb_token.specs.grammar.Patterns.{match_query};
 ghost use Rattle.tb_token.specs.grammar.Queries.{rules};
-ghost use Rattle.tb_token.specs.reading.Calls.{FirstWrong, Says};
-ghost use Rattle.tb_pattern.specs.Syntax.{match_rules};
+ghost use Rattle.tb_token.specs.reading.Calls.{FirstWrong};
 
 use crate::grammar::{EDGES_REST, MATCH_QUERY, NAME};
 use std::alloc::{AllocError, Global};
@@ -21,18 +20,5 @@ pub fn first_wrong_match(alloc: Global, tokens: &[Lexeme]) -> Result<Option<u32>
         rules: &[&EDGES_REST],
         other: &NAME,
     };
-    first_wrong_by(alloc, &grammar, tokens)
-}
-
-/// The same by a grammar that is that of `MATCH` queries.
-fn first_wrong_by(
-    alloc: Global,
-    grammar: &Grammar,
-    tokens: &[Lexeme],
-) -> Result<Option<u32>, AllocError>
-    requires short { length tokens.now ≤ 65536 }
-    requires says { Says grammar.now match_rules match_query }
-    ensures { IfOk result (FirstWrong rules match_query tokens.now) }
-{
-    first_wrong(alloc, grammar, tokens)
+    first_wrong(alloc, &grammar, tokens)
 }

@@ -1,6 +1,6 @@
 -- Lists of letters.
 use Rattle.std.proofs.Common.{◌≡◌, ◌⊎◌, inl, inr, ℕ, Bool, true, false, not, ◌&&◌, ◌||◌, ◌==◌, List, [], ◌∷◌, ◌++◌, refl, sym, ◌∙◌, eqb-true}
-use Rattle.std.proofs.lemmas.Bool.{and_parts, and_from}
+use Rattle.std.proofs.lemmas.Bool.{and_parts, and_from, or_left, or_right, or_parts, and_cases, not_from_false, or_cases, not-true}
 use Rattle.std.proofs.lemmas.Bool.Decides.{Decides-eqb}
 use Rattle.tb_token.specs.grammar.Grammar.{has}
 use Rattle.tb_token.specs.grammar.Decided.{all_in, are_apart}
@@ -8,35 +8,9 @@ use Rattle.tb_token.specs.grammar.Decided.{all_in, are_apart}
 pub none-true : {P : Type 0} (x : Bool) → x ≡ false → x ≡ true → P
 none-true x e is = absurd (let d : ◌≡◌ {A = Bool} false true = sym e ∙ is in cc)
 
-pub or-cases : (x y : Bool) → (x || y) ≡ true → (x ≡ true) ⊎ (y ≡ true)
-or-cases true y is = inl refl
-or-cases false y is = inr is
-
-pub or-left : (x y : Bool) → x ≡ true → (x || y) ≡ true
-or-left x y is = rw is refl
-
-pub or-right : (x y : Bool) → y ≡ true → (x || y) ≡ true
-or-right true y is = refl
-or-right false y is = is
-
 pub and-false : (x : Bool) → (x && false) ≡ false
 and-false true = refl
 and-false false = refl
-
-pub or-false : (x y : Bool) → (x || y) ≡ false → (x ≡ false) × (y ≡ false)
-or-false true y e = none-true true e refl
-or-false false y e = (refl, e)
-
-pub and-cases : (x y : Bool) → (x && y) ≡ false → (x ≡ false) ⊎ (y ≡ false)
-and-cases true y e = inr e
-and-cases false y e = inl refl
-
-pub not-true : (x : Bool) → not x ≡ true → x ≡ false
-not-true true e = none-true false refl e
-not-true false e = refl
-
-pub not-of : (x : Bool) → x ≡ false → not x ≡ true
-not-of x e = rw e refl
 
 pub and-three : (x y z : Bool) → (x && y && z) ≡ true → (x ≡ true) × (y ≡ true) × (z ≡ true)
 and-three x y z is =
@@ -52,7 +26,14 @@ and-five x y z u w is =
     (front.0, front.1, front.2, fourth.1, last.1)
 
 pub has-first : (x : ℕ) (c : List ℕ) → has (x ∷ c) x ≡ true
-has-first x c = or-left (x == x) (has c x) ((Decides-eqb x x).1 refl)
+has-first x c = or_left (x == x) (has c x) ((Decides-eqb x x).1 refl)
+
+pub has-only : (c x : ℕ) → has (c ∷ []) x ≡ true → x ≡ c
+has-only c x is = by (c == x) refl is
+  where
+    by : (same : Bool) → (c == x) ≡ same → (same || false) ≡ true → x ≡ c
+    by true e same = sym (eqb-true c x e)
+    by false e same = none-true false refl same
 
 -- all letters of the first are letters of the second
 abbrev pub Within : List ℕ → List ℕ → Type 0
@@ -68,7 +49,7 @@ has-left (c ∷ cs) ys x is = has-left-by (c == x) cs ys x (has-left cs ys x) is
 
 pub has-right : (xs ys : List ℕ) (x : ℕ) → has ys x ≡ true → has (xs ++ ys) x ≡ true
 has-right [] ys x is = is
-has-right (c ∷ cs) ys x is = or-right (c == x) (has (cs ++ ys) x) (has-right cs ys x is)
+has-right (c ∷ cs) ys x is = or_right (c == x) (has (cs ++ ys) x) (has-right cs ys x is)
 
 pub has-either : (xs ys : List ℕ) (x : ℕ) → has (xs ++ ys) x ≡ true → (has xs x ≡ true) ⊎ (has ys x ≡ true)
 has-either [] ys x is = inr is
@@ -100,7 +81,7 @@ pub all_in-of : (xs ys : List ℕ) → Within xs ys → all_in xs ys ≡ true
 all_in-of [] ys within = refl
 all_in-of (c ∷ cs) ys within =
     let here : (c == c) ≡ true = (Decides-eqb c c).1 refl in
-    and_from (has ys c) (all_in cs ys) (within c (or-left (c == c) (has cs c) here)) (all_in-of cs ys (λ x is. within x (or-right (c == x) (has cs x) is)))
+    and_from (has ys c) (all_in cs ys) (within c (or_left (c == c) (has cs c) here)) (all_in-of cs ys (λ x is. within x (or_right (c == x) (has cs x) is)))
 
 pub apart-none : (xs ys : List ℕ) (x : ℕ) → are_apart xs ys ≡ true → has xs x ≡ true → has ys x ≡ false
 apart-none [] ys x apart is = none-true false refl is
@@ -124,4 +105,4 @@ apart-within [] ys zs within apart = refl
 apart-within (x ∷ xs) ys zs within apart =
     let parts = and_parts (not (has zs x)) (are_apart xs zs) apart in
     let none = none-within ys zs x within (not-true (has zs x) parts.0) in
-    and_from (not (has ys x)) (are_apart xs ys) (not-of (has ys x) none) (apart-within xs ys zs within parts.1)
+    and_from (not (has ys x)) (are_apart xs ys) (not_from_false (has ys x) none) (apart-within xs ys zs within parts.1)

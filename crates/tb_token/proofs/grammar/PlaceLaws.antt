@@ -1,5 +1,6 @@
 -- Readers of parts, joined to readers of larger parts.
 use Rattle.std.proofs.Common.{◌≡◌, ℕ, ◌+◌, ◌-◌, ◌<◌, ◌≤◌, Bool, true, false, cond, ◌&&◌, ◌||◌, List, [], ◌∷◌, ◌++◌, length, drop, Option, Some, None, refl, ap, ◌∙◌, arith, length-drop}
+use Rattle.std.proofs.lemmas.Bool.{or_parts}
 use Rattle.std.proofs.lemmas.List.{drop_all}
 use Rattle.tb_token.specs.grammar.Grammar.{Tok, Part, one, both, either, maybe, many, opened, Rules, has}
 use Rattle.tb_token.specs.grammar.Words.{Tree, leaf, nothing, pair, first, second, by_one, by_both, by_first, by_second, left_out, put_in, no_more, one_more, by_rule, at_end, IsWrongAt}
@@ -30,12 +31,8 @@ not-right xs ys x none = by (has ys x) refl
 starts-behind : (p : Part) (xs : List ℕ) (x : ℕ) → is_filled p ≡ false → has (starts p xs) x ≡ false → has xs x ≡ false
 starts-behind (one c) xs x empty none = none-true true empty refl
 starts-behind (both p q) xs x empty none =
-    let parts = or-parts (is_filled p) (is_filled q) empty in
+    let parts = or_parts (is_filled p) (is_filled q) empty in
     starts-behind q xs x parts.1 (starts-behind p (starts q xs) x parts.0 none)
-  where
-    or-parts : (a b : Bool) → (a || b) ≡ false → (a ≡ false) × (b ≡ false)
-    or-parts true b e = none-true true e refl
-    or-parts false b e = (refl, e)
 starts-behind (either p q) xs x empty none = by (is_filled p) refl empty (λ e. starts-behind p xs x e (not-left (starts p xs) (starts q xs) x none)) (λ e. starts-behind q xs x e (not-right (starts p xs) (starts q xs) x none))
   where
     by : (filled : Bool) → is_filled p ≡ filled → (filled && is_filled q) ≡ false → (is_filled p ≡ false → has xs x ≡ false) → (is_filled q ≡ false → has xs x ≡ false) → has xs x ≡ false

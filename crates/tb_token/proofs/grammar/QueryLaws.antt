@@ -28,7 +28,7 @@ readable = record {
   matches = (refl, tt);
 }
 
-first-tree : (v w : Tree) → (v ∷ []) ≡ (w ∷ []) → v ≡ w
+pub first-tree : (v w : Tree) → (v ∷ []) ≡ (w ∷ []) → v ≡ w
 first-tree v w e = cc
 
 pub one-query : AreOneQuery

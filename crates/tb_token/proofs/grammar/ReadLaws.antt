@@ -1,11 +1,11 @@
 -- A reading with one token of look-ahead goes on exactly as far as a word can.
 use Rattle.std.proofs.Common.{◌≡◌, ◌⊎◌, inl, inr, ⊎_elim, ℕ, zero, suc, ◌+◌, ◌-◌, ◌<◌, ◌≤◌, Bool, true, false, cond, List, [], ◌∷◌, ◌++◌, length, take, Option, Some, None, refl, sym, ap, ◌∙◌, arith, append-nil}
-use Rattle.std.proofs.lemmas.Bool.{and_parts}
+use Rattle.std.proofs.lemmas.Bool.{and_parts, or_cases}
 use Rattle.tb_token.specs.grammar.Grammar.{Tok, Part, one, both, either, maybe, many, opened, Rules, has}
 use Rattle.tb_token.specs.grammar.Words.{Tree, Derives, by_one, by_both, by_first, by_second, left_out, put_in, no_more, one_more, by_rule, AreWord, Begin, IsWrongAt}
 use Rattle.tb_token.specs.grammar.Reading.{is_filled, may_end, own_starts, takes, after, read}
 use Rattle.tb_token.specs.grammar.Decided.{are_apart, all_starts, AreDecided, AreGood}
-use Rattle.tb_token.proofs.grammar.LetterLaws.{none-true, or-cases, apart-none}
+use Rattle.tb_token.proofs.grammar.LetterLaws.{none-true, apart-none}
 use Rattle.tb_token.proofs.grammar.WordLaws.{both-decided, first-decided, second-decided, maybe-decided, many-decided, rule-decided, either-filled, maybe-filled, many-filled, word-starts, own-starts, none-ends, word-one, word-both, word-first, word-second, word-left_out, word-put_in, word-no_more, word-one_more, word-rule, none-word, have-word}
 
 some-is : {A : Type 0} (x y : A) → ◌≡◌ {A = Option A} (Some x) (Some y) → x ≡ y
@@ -69,7 +69,7 @@ takes-filled rules (both p q) x ps o u filled =
     ⊎_elim
     (λ one_is. takes-filled rules p x (q ∷ ps) (takes rules q x ps o) (takes rules q x ps u) one_is)
     (λ two_is. ap (λ r. takes rules p x (q ∷ ps) r) (takes-filled rules q x ps o u two_is))
-    (or-cases (is_filled p) (is_filled q) filled)
+    (or_cases (is_filled p) (is_filled q) filled)
 takes-filled rules (either p q) x ps o u filled =
     let parts = and_parts (is_filled p) (is_filled q) filled in
     let one_is = takes-filled rules p x ps o u parts.0 in

@@ -1,16 +1,16 @@
 -- The letters that parts begin with.
 use Rattle.std.proofs.Common.{◌≡◌, ⊎_elim, ℕ, true, false, List, refl, ap}
-use Rattle.std.proofs.lemmas.Bool.{and_parts, and_from}
+use Rattle.std.proofs.lemmas.Bool.{and_parts, and_from, or_cases}
 use Rattle.tb_token.specs.grammar.Grammar.{Part, one, both, either, maybe, many, opened}
 use Rattle.tb_token.specs.grammar.Reading.{is_filled, starts, own_starts}
 use Rattle.tb_token.specs.grammar.Decided.{all_in, are_apart, is_some, is_decided}
-use Rattle.tb_token.proofs.grammar.LetterLaws.{none-true, or-cases, Within, within-append, within-all_in, all_in-of, apart-within, and-three, and-five}
+use Rattle.tb_token.proofs.grammar.LetterLaws.{none-true, Within, within-append, within-all_in, all_in-of, apart-within, and-three, and-five}
 
 -- what stands behind a filled part does not tell how it begins
 pub starts-filled : (p : Part) (xs ys : List ℕ) → is_filled p ≡ true → starts p xs ≡ starts p ys
 starts-filled (one c) xs ys filled = refl
 starts-filled (both p q) xs ys filled =
-    ⊎_elim (λ here. starts-filled p (starts q xs) (starts q ys) here) (λ there. ap (λ zs. starts p zs) (starts-filled q xs ys there)) (or-cases (is_filled p) (is_filled q) filled)
+    ⊎_elim (λ here. starts-filled p (starts q xs) (starts q ys) here) (λ there. ap (λ zs. starts p zs) (starts-filled q xs ys there)) (or_cases (is_filled p) (is_filled q) filled)
 starts-filled (either p q) xs ys filled =
     let parts = and_parts (is_filled p) (is_filled q) filled in
     let one_is = starts-filled p xs ys parts.0 in

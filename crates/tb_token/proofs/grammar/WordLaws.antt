@@ -1,11 +1,11 @@
 -- What the first token of a word is, and that each list of parts has a word.
 use Rattle.std.proofs.Common.{◌≡◌, ⊎_elim, ℕ, Bool, true, false, cond, ◌&&◌, List, [], ◌∷◌, length, suc, refl, ap, arith}
-use Rattle.std.proofs.lemmas.Bool.{and_parts}
+use Rattle.std.proofs.lemmas.Bool.{and_parts, or_cases, or_parts, and_cases}
 use Rattle.tb_token.specs.grammar.Grammar.{Tok, Part, one, both, either, maybe, many, opened, Rules, has}
 use Rattle.tb_token.specs.grammar.Words.{Tree, leaf, nothing, pair, first, second, Derives, at_end, by_one, by_both, by_first, by_second, left_out, put_in, no_more, one_more, by_rule, AreWord}
 use Rattle.tb_token.specs.grammar.Reading.{is_filled, may_end, starts, own_starts}
 use Rattle.tb_token.specs.grammar.Decided.{all_in, are_apart, is_some, all_starts, is_decided, AreDecided, AreGood, is_easy}
-use Rattle.tb_token.proofs.grammar.LetterLaws.{none-true, or-cases, has-left, has-right, within-all_in, and-three, and-five, and-false, or-false, and-cases, has-first}
+use Rattle.tb_token.proofs.grammar.LetterLaws.{none-true, has-left, has-right, within-all_in, and-three, and-five, and-false, has-first}
 use Rattle.tb_token.proofs.grammar.StartLaws.{starts-filled, decided-within}
 
 module _ (rules : Rules) (follow : ℕ → List ℕ) (good : AreGood rules follow) where
@@ -187,10 +187,10 @@ module _ (rules : Rules) where
   pub word-empty : (p : Part) (ps : List Part) (s : List Tok) → is_filled p ≡ false → AreWord rules ps s → AreWord rules (p ∷ ps) s
   word-empty (one c) ps s empty word = none-true true empty refl
   word-empty (both p q) ps s empty word =
-      let parts = or-false (is_filled p) (is_filled q) empty in
+      let parts = or_parts (is_filled p) (is_filled q) empty in
       word-both p q ps s (word-empty p (q ∷ ps) s parts.0 (word-empty q ps s parts.1 word))
   word-empty (either p q) ps s empty word =
-      ⊎_elim (λ e. word-first p q ps s (word-empty p ps s e word)) (λ e. word-second p q ps s (word-empty q ps s e word)) (and-cases (is_filled p) (is_filled q) empty)
+      ⊎_elim (λ e. word-first p q ps s (word-empty p ps s e word)) (λ e. word-second p q ps s (word-empty q ps s e word)) (and_cases (is_filled p) (is_filled q) empty)
   word-empty (maybe p) ps s empty word = word-left_out p ps s word
   word-empty (many p) ps s empty word = word-no_more p ps s word
   word-empty (opened c n) ps s empty word = none-true true empty refl
@@ -227,7 +227,7 @@ module _ (rules : Rules) (follow : ℕ → List ℕ) (good : AreGood rules follo
       ⊎_elim
       (λ e. let rest = easy-filled p xs ps e ds.3 have in (rest.0, word-first rules p q ps rest.0 rest.1))
       (λ e. let rest = easy-filled q xs ps e ds.4 have in (rest.0, word-second rules p q ps rest.0 rest.1))
-      (or-cases (is_easy p) (is_easy q) easy)
+      (or_cases (is_easy p) (is_easy q) easy)
   easy-filled (maybe p) xs ps easy d have = (have.0, word-left_out rules p ps have.0 have.1)
   easy-filled (many p) xs ps easy d have = (have.0, word-no_more rules p ps have.0 have.1)
   easy-filled (opened c n) xs ps easy d have = none-true false refl easy

@@ -26,7 +26,3 @@ word-passes test bytes capital small word =
     or-by (is_among bytes words) (is_among bytes (map (map to_ascii_lowercase) words))
     (λ among. among-passes test bytes words capital among)
     (λ among. among-passes test bytes (map (map to_ascii_lowercase) words) small among) word
-
-pub not-true : (x : Bool) → not x ≡ true → x ≡ false
-not-true true e = absurd (let d : ◌≡◌ {A = Bool} false true = e in cc)
-not-true false e = refl

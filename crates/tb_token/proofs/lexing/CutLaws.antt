@@ -9,7 +9,8 @@ use Rattle.tb_token.specs.declared.lexer.token.Kind.TheVariants.{Name, Word, Var
 use Rattle.tb_token.specs.declared.lexer.token.Token.{Token}
 use Rattle.tb_token.specs.declared.lexer.fault.LexFault.{LexFault}
 use Rattle.tb_token.proofs.lexing.KindLaws.{kind_class, blank-class, quote-class, token-some, kind-unique}
-use Rattle.tb_token.proofs.lexing.FrontLaws.{none-true, token-front}
+use Rattle.tb_token.proofs.grammar.LetterLaws.{none-true}
+use Rattle.tb_token.proofs.lexing.FrontLaws.{token-front}
 
 -- a token has a byte
 pub longest-some : {bytes : List ℕ} {k : Kind} {n : ℕ} → IsLongest bytes k n → 0 < n

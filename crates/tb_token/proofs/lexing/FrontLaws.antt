@@ -16,13 +16,11 @@ use Rattle.tb_token.specs.tokens.Fronts.{Finds, found, rest_len, begins_text_tes
 use Rattle.tb_token.specs.declared.lexer.token.Kind.{Kind}
 use Rattle.tb_token.specs.declared.lexer.token.Kind.TheVariants.{Name, Word, Variable, Number, Quoted, TextTest, Sign}
 use Rattle.tb_token.specs.declared.lexer.front.Front.{Front}
+use Rattle.tb_token.proofs.grammar.LetterLaws.{none-true}
 use Rattle.tb_token.proofs.lexing.AmongLaws.{or-by, among-passes}
 use Rattle.tb_token.proofs.lexing.KindLaws.{class_of, kind_class, name-class, digit-class, quote-class, dollar-class, token-class, token-some, word-name}
 use Rattle.tb_token.proofs.lexing.SizeLaws.{all-front, all-most, rest-le, name-front, name-most, inside, closed-at, closed-front}
 use Rattle.tb_token.proofs.lexing.SignLaws.{sign-single, sign-pair, sign-short}
-
-pub none-true : {P : Type 0} (x : Bool) → x ≡ false → x ≡ true → P
-none-true x e is = absurd (let d : ◌≡◌ {A = Bool} false true = sym e ∙ is in cc)
 
 pub token-front : (k : Kind) (b : ℕ) (bs : List ℕ) (n : ℕ) → is_token k (take n (b ∷ bs)) ≡ true → class_of b ≡ kind_class k
 token-front k b bs zero is = none-true (is_token k []) (token-some k) is

@@ -2,14 +2,14 @@
 use Rattle.std.proofs.Common.{◌≡◌, ℕ, Bool, true, false, cond, not, ◌==◌, List, [], ◌∷◌, refl, sym, ap, ◌∙◌, arith, eqb-true}
 use Rattle.std.specs.Prelude.{nat_lt, length, codes}
 use Rattle.std.specs.List.{list_all}
-use Rattle.std.proofs.lemmas.Bool.{and_parts}
+use Rattle.std.proofs.lemmas.Bool.{and_parts, not-true}
 use Rattle.std.proofs.lemmas.Bool.Decides.{nat_tests}
 use Rattle.tb_token.specs.tokens.Bytes.{is_blank, is_digit, is_quote, starts_name}
 use Rattle.tb_token.specs.tokens.Names.{is_name, is_word, all_go_on}
 use Rattle.tb_token.specs.tokens.Kinds.{is_token, is_closed, is_text_test, signs}
 use Rattle.tb_token.specs.declared.lexer.token.Kind.{Kind}
 use Rattle.tb_token.specs.declared.lexer.token.Kind.TheVariants.{Name, Word, Variable, Number, Quoted, TextTest, Sign}
-use Rattle.tb_token.proofs.lexing.AmongLaws.{among-passes, word-passes, not-true}
+use Rattle.tb_token.proofs.lexing.AmongLaws.{among-passes, word-passes}
 
 -- names 0, numbers 1, strings 2, variables 3, signs 4; blanks 5
 abbrev pub class_of : ℕ → ℕ

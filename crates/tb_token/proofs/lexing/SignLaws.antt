@@ -6,15 +6,12 @@ use Rattle.std.proofs.lemmas.Bool.Decides.{nat_tests}
 use Rattle.tb_token.specs.tokens.Names.{is_among}
 use Rattle.tb_token.specs.tokens.Kinds.{signs}
 use Rattle.tb_token.specs.tokens.Fronts.{is_pair, is_single}
+use Rattle.tb_token.proofs.grammar.LetterLaws.{and-false}
 use Rattle.tb_token.proofs.lexing.AmongLaws.{among-passes}
 
 and-true : (x : Bool) → (x && true) ≡ x
 and-true true = refl
 and-true false = refl
-
-and-false : (x : Bool) → (x && false) ≡ false
-and-false true = refl
-and-false false = refl
 
 pub sign-single : (b : ℕ) → is_among (b ∷ []) signs ≡ is_single b
 sign-single b = simp (and-true, and-false)
