@@ -5,8 +5,8 @@ use Rattle.tb_token.specs.grammar.Grammar.{Tok}
 use Rattle.tb_token.specs.tokens.Letters.{toks_of}
 use Rattle.tb_token.specs.declared.lexer.token.Token.{Token}
 use Rattle.tb_pattern.specs.Faults as pattern
-use Rattle.tb_scope.specs.Variables.{clauses_in, first_unknown, first_repeated}
-use Rattle.tb_scope.specs.Constructors.{first_wrong_tag, first_repeated_attribute}
+use Rattle.tb_flwor.specs.Variables.{clauses_in, first_unknown, first_repeated}
+use Rattle.tb_flwor.specs.Constructors.{first_wrong_tag, first_repeated_attribute}
 use Rattle.tb_flwor.specs.Faults.{is_too_nested, variables_in, results_in, or_else, fault_at_token, first_fault, AreQuery, AreTokens, HasFault}
 use Rattle.tb_flwor.specs.Calls.{Checks}
 use Rattle.tb_flwor.specs.declared.fault.QueryFault.{QueryFault}

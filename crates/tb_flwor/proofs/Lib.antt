@@ -1,3 +1,7 @@
+pub mod NameLaws
+pub mod AttributeLaws
+pub mod VariableRows
+pub mod ConstructorRows
 pub mod RunLaws
 pub mod PathLaws
 pub mod OperandLaws
@@ -8,8 +12,12 @@ pub mod Views
 pub mod ConsLaws
 pub mod FlworLaws
 pub mod FaultLaws
+pub mod OneFault
 pub mod QueryBuilding
 pub mod OneQuery
 pub mod ValueRows
 pub mod WorkedRows
 pub mod SyntaxLaws
+pub mod TokenLaws
+pub mod ReturnedLaws
+pub mod EventLaws

@@ -17,7 +17,7 @@ use Rattle.tb_pattern.proofs.BuildingLaws.{some-none, false-true, come-as}
 use Rattle.tb_pattern.specs.declared.pattern.Pattern.{Pattern}
 use Rattle.tb_query.specs.declared.query.Flwor as flwor
 use Rattle.tb_query.specs.declared.query.Query.TheVariants.{Match, Flwor}
-use Rattle.tb_scope.specs.Variables.{is_match, clauses_in, bound}
+use Rattle.tb_flwor.specs.Variables.{is_match, clauses_in, bound}
 use Rattle.tb_flwor.specs.Value.{Names}
 use Rattle.tb_flwor.specs.Asked.{IsFlwor}
 use Rattle.tb_flwor.specs.Faults.{AreQuery, first_fault}

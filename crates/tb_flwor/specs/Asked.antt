@@ -14,7 +14,7 @@ use Rattle.tb_query.specs.declared.operand.Comparison.{Comparison}
 use Rattle.tb_query.specs.declared.query.Flwor as flwor
 use Rattle.tb_query.specs.declared.query.Query.{Query}
 use Rattle.tb_query.specs.declared.query.Query.TheVariants.{Match, Flwor}
-use Rattle.tb_scope.specs.Variables.{bound}
+use Rattle.tb_flwor.specs.Variables.{bound}
 use Rattle.tb_flwor.specs.Value.{Names, clause_from, more_clauses, conds_of, group_of, keys_of}
 use Rattle.tb_flwor.specs.Results.{back_in}
 

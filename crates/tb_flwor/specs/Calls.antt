@@ -8,9 +8,9 @@ use Rattle.tb_token.specs.grammar.Queries.{rules, query}
 use Rattle.tb_token.specs.reading.Calls as reading
 use Rattle.tb_query.specs.declared.query.Query.{Query}
 use Rattle.tb_flwor.specs.Asked.{AskFor}
-use Rattle.tb_flwor.specs.Faults.{AreQuery, AreTokens, fault_at_token, first_fault, Holds, HasFault}
+use Rattle.tb_flwor.specs.Faults.{AreQuery, AreFaultless, AreTokens, fault_at_token, first_fault, Holds, HasFault}
 use Rattle.tb_flwor.specs.Value.{Names}
-use Rattle.tb_scope.specs.Variables.{bound, clauses_in}
+use Rattle.tb_flwor.specs.Variables.{bound, clauses_in}
 use Rattle.tb_flwor.specs.declared.fault.QueryFault.{QueryFault}
 use Rattle.tb_flwor.specs.declared.fault.QueryFault.TheVariants.{TooLong, BadByte, OpenString, Syntax, NoMemory}
 
@@ -22,7 +22,7 @@ FirstWrong s wrong = reading.FirstWrong rules query s wrong
 -- The names that are bound, where the tokens are a query without fault, or their first fault; memory
 -- may be wanting at any time.
 abbrev pub Checks : List Tok → Result Names QueryFault → Type 0
-Checks s (Ok names) = AreQuery s × (first_fault s ≡ None) × (names ≡ bound (clauses_in s))
+Checks s (Ok names) = AreFaultless s × (names ≡ bound (clauses_in s))
 Checks s (Err TooLong) = ⊥
 Checks s (Err (BadByte at)) = ⊥
 Checks s (Err (OpenString at)) = ⊥
@@ -43,5 +43,5 @@ CutsQuery text (Err f) = HasFault text f
 
 -- the query that the text asks for, where it has no fault, or the first of its faults
 abbrev pub Reads : List ℕ → Result Query QueryFault → Type 0
-Reads text (Ok q) = Holds text (λ s. AreQuery s × (first_fault s ≡ None) × AskFor s q)
+Reads text (Ok q) = Holds text (λ s. AreFaultless s × AskFor s q)
 Reads text (Err f) = HasFault text f

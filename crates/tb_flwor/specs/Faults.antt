@@ -1,6 +1,6 @@
 -- The faults of a query's text, in the order in which they are tried. The first that holds is
 -- answered, and of one kind the first by the number of its token, or by its byte.
-use Rattle.std.specs.Prelude.{◌≡◌, ℕ, ◌<◌, ◌≤◌, Bool, if◌then◌else◌, nat_lt, List, [], ◌∷◌, length, Option, Some, None, ⊤}
+use Rattle.std.specs.Prelude.{◌≡◌, ◌≢◌, ℕ, ◌<◌, ◌≤◌, Bool, if◌then◌else◌, nat_lt, List, [], ◌∷◌, length, Option, Some, None, ⊤}
 use Rattle.tb_token.specs.grammar.Grammar.{Tok}
 use Rattle.tb_token.specs.grammar.Words.{AreWord, IsWrongAt}
 use Rattle.tb_token.specs.tokens.Cuts.{IsCut}
@@ -10,8 +10,8 @@ use Rattle.tb_token.specs.declared.lexer.token.Token.{Token}
 use Rattle.tb_token.specs.declared.lexer.fault.LexFault.{LexFault}
 use Rattle.tb_token.specs.declared.lexer.fault.LexFault.TheVariants as lex
 use Rattle.tb_pattern.specs.Faults as pattern
-use Rattle.tb_scope.specs.Variables.{is_match, clauses_in, bound, first_unknown, first_repeated}
-use Rattle.tb_scope.specs.Constructors.{results, is_nested, first_wrong_tag, first_repeated_attribute}
+use Rattle.tb_flwor.specs.Variables.{is_match, clauses_in, bound, first_unknown, first_repeated}
+use Rattle.tb_flwor.specs.Constructors.{results, is_nested, first_wrong_tag, first_repeated_attribute}
 use Rattle.tb_flwor.specs.declared.fault.QueryFault.{QueryFault}
 use Rattle.tb_flwor.specs.declared.fault.QueryFault.TheVariants.{TooLong, BadByte, OpenString, Syntax, TooNested, TooManyNodes, TooManyVariables, UnknownVariable, RepeatedVariable, LiteralPast, WrongTag, RepeatedAttribute, NoMemory}
 
@@ -56,6 +56,10 @@ first_fault s =
 abbrev pub AreQuery : List Tok → Type 0
 AreQuery s = AreWord rules (query ∷ []) s
 
+-- the tokens are a query, and have none of these faults
+abbrev pub AreFaultless : List Tok → Type 0
+AreFaultless s = AreQuery s × (first_fault s ≡ None)
+
 -- the text isn't too long, and it is cut into these tokens, to its end or up to this fault
 abbrev pub AreTokens : List ℕ → List Token → Option LexFault → Type 0
 AreTokens text ts f = (length text ≤ 65536) × IsCut text ts f
@@ -77,6 +81,11 @@ HasFault text (Syntax k) = Holds text (λ s. IsWrongAt rules (query ∷ []) s k)
 HasFault text NoMemory = ⊤
 HasFault text f = Holds text (λ s. AreQuery s × (first_fault s ≡ Some f))
 
--- the text is a query, and has none of these faults
-abbrev pub HasNoFault : List ℕ → Type 0
-HasNoFault text = Holds text (λ s. AreQuery s × (first_fault s ≡ None))
+-- the fault is the first of the text; want of memory is no fault of a text
+abbrev pub IsRefused : List ℕ → QueryFault → Type 0
+IsRefused text fault = (fault ≢ NoMemory) × HasFault text fault
+
+-- the fault of the text, none where it is a query without one
+abbrev pub IsFaultOf : List ℕ → Option QueryFault → Type 0
+IsFaultOf text None = Holds text AreFaultless
+IsFaultOf text (Some fault) = IsRefused text fault

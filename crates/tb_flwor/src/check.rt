@@ -1,18 +1,16 @@
 //! The first fault of a query's tokens.
 
 ghost use Rattle.std.specs.Prelude.{◌≡◌, ◌≤◌, IfOk, length};
-ghost use Rattle.tb_scope.specs.Variables.{clauses_in};
+ghost use Rattle.tb_flwor.specs.Variables.{clauses_in};
 ghost use Rattle.tb_flwor.specs.Calls.{Checks, ChecksLimits};
 ghost use Rattle.tb_flwor.specs.Faults.{is_too_nested, fault_at_token, fault_in_results};
 
+use crate::constructors::{first_repeated_attribute, first_wrong_tag, is_nested, results};
 use crate::names::Names;
+use crate::variables::{bound, first_repeated, first_unknown, is_match};
 use crate::{QueryFault, first_wrong_query};
 use std::alloc::{AllocError, Global};
 use tb_pattern::limits::{self, first_past, tests_in};
-use tb_scope::{
-    bound, first_repeated, first_repeated_attribute, first_unknown, first_wrong_tag, is_match,
-    is_nested, results,
-};
 use tb_token::Lexeme;
 
 /// The names that are bound, where the tokens are a query without fault, or else the first fault.

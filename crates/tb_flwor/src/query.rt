@@ -1,7 +1,7 @@
 //! A whole query.
 
 ghost use Rattle.std.specs.Prelude.{◌≡◌, ◌≤◌, IfOk, length};
-ghost use Rattle.tb_scope.specs.Variables.{bound, clauses_in};
+ghost use Rattle.tb_flwor.specs.Variables.{bound, clauses_in};
 ghost use Rattle.tb_flwor.specs.Built.{Asks};
 ghost use Rattle.tb_flwor.specs.Calls.{CutsQuery, Reads};
 
@@ -9,10 +9,10 @@ use crate::QueryFault;
 use crate::build::flwor;
 use crate::check::check;
 use crate::names::Names;
+use crate::variables::is_match;
 use std::alloc::{AllocError, Global};
 use tb_pattern::build::pattern;
 use tb_query::Query;
-use tb_scope::is_match;
 use tb_token::{LexFault, Lexeme, Token, lexemes, tokens};
 
 /// The query that the text asks for, or the first of its faults. Each token is looked at a few times;

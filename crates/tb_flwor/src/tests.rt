@@ -9,6 +9,7 @@ use tb_token::{lexemes, tokens};
 mod faults;
 mod limits;
 mod neighbours;
+mod scope;
 mod told;
 mod values;
 

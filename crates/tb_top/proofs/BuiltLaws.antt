@@ -5,11 +5,11 @@ use Rattle.std.proofs.lemmas.Bool.{false≢true}
 use Rattle.tb_script.specs.declared.command.Command.{Command}
 use Rattle.tb_script.specs.declared.command.Command.TheVariants.{Query}
 use Rattle.tb_top.specs.QueryText as text
-use Rattle.tb_top.specs.QueryFaults.{IsFaultOf}
+use Rattle.tb_flwor.specs.Faults.{IsFaultOf}
 use Rattle.tb_top.specs.Cuts.{query_in}
 use Rattle.tb_top.specs.Single.{IsBuilt}
 use Rattle.tb_top.proofs.QueryLaws.{query_in-text, query_in-some}
-use Rattle.tb_top.proofs.FaultLaws.{never-both}
+use Rattle.tb_flwor.proofs.OneFault.{never-both}
 
 -- a text that is built and has no fault has the one form
 pub built-form : (t : List ℕ) → IsFaultOf t None → IsBuilt (Query t) → text.HasQuery t

@@ -5,7 +5,7 @@ use Rattle.tb_script.specs.declared.command.Command.{Command}
 use Rattle.tb_script.specs.declared.command.Command.TheVariants.{Load, Query, Tell, Hear}
 use Rattle.tb_top.specs.Check.{IsRefusal, AreLines, AreRefusals, IsCheck, query_refusal, counts_of, commands_count, queries_of, queries_in}
 use Rattle.tb_top.specs.Pieces.{Grows}
-use Rattle.tb_top.proofs.FaultLaws.{fault-once}
+use Rattle.tb_flwor.proofs.OneFault.{fault-once}
 
 pub commands-few : (css : List (List Command)) → AllByRecursion (λ cs. length cs ≤ 10000) css → commands_count css ≤ 10000 * length css
 commands-few [] all = omega arith

@@ -11,7 +11,6 @@ pub mod DoneLaws
 pub mod HistoryLaws
 pub mod ReadyLaws
 pub mod CheckLaws
-pub mod FaultLaws
 pub mod BuiltLaws
 pub mod SettledLaws
 pub mod Completeness

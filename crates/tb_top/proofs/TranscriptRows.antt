@@ -11,7 +11,7 @@ use Rattle.tb_top.specs.Answer.{answer_of, two_names}
 use Rattle.tb_top.specs.History.{document_at}
 use Rattle.tb_top.specs.Deeds.{Record, loaded, refused, answered, refused_query, told, heard, Deed, history_of}
 use Rattle.tb_top.specs.Transcript.{transcript_of}
-use Rattle.tb_top.specs.QueryFaults.{IsFaultOf}
+use Rattle.tb_flwor.specs.Faults.{IsFaultOf}
 use Rattle.tb_top.specs.Check.{IsCheck}
 
 -- `a` in `a` in `a`, and `x` alone

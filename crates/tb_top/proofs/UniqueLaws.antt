@@ -22,7 +22,7 @@ use Rattle.tb_top.specs.Single.{step_of, world_of, IsRun, IsTranscript}
 use Rattle.tb_top.specs.Transcript.{transcript_of}
 use Rattle.tb_top.proofs.DoneLaws.{run-append, changes_behind-append}
 use Rattle.tb_top.proofs.QueryLaws.{query-unique}
-use Rattle.tb_top.proofs.FaultLaws.{refused-once, never-both}
+use Rattle.tb_flwor.proofs.OneFault.{refused-once, never-both}
 use Rattle.tb_tree.proofs.lists.Parts.{parts-same, first-same}
 use Rattle.std.proofs.lemmas.Option.{same_Some}
 use Rattle.tb_core.proofs.ChangeLaws.{history-with_seen}

@@ -7,7 +7,7 @@ use Rattle.tb_flwor.specs.declared.fault.QueryFault.{QueryFault}
 use Rattle.tb_script.specs.declared.command.Command.{Command}
 use Rattle.tb_script.specs.declared.command.Command.TheVariants.{Load, Query}
 use Rattle.tb_script.specs.Runnable.{loads_in}
-use Rattle.tb_top.specs.QueryFaults.{IsFaultOf}
+use Rattle.tb_flwor.specs.Faults.{IsFaultOf}
 use Rattle.tb_top.specs.FaultText.{esis_fault_text}
 use Rattle.tb_top.specs.Transcript.{refused_query_line}
 

@@ -13,7 +13,7 @@ use Rattle.tb_core.specs.declared.event.Event.{Event}
 use Rattle.tb_core.specs.declared.event.Event.TheVariants as event
 use Rattle.tb_top.specs.Answer.{Answer, answer_of, two_names}
 use Rattle.tb_top.specs.QueryText.{Query, IsQuery}
-use Rattle.tb_top.specs.QueryFaults.{IsFaultOf}
+use Rattle.tb_flwor.specs.Faults.{IsFaultOf}
 use Rattle.tb_top.specs.History.{Change, count_of, document_at}
 
 -- what a command came to

@@ -3,7 +3,6 @@
 pub mod Answer
 pub mod Names
 pub mod QueryText
-pub mod QueryFaults
 pub mod History
 pub mod Deeds
 pub mod FaultText

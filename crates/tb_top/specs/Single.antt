@@ -10,7 +10,7 @@ use Rattle.tb_script.specs.declared.turnstep.Turnstep.{Turnstep}
 use Rattle.tb_core.specs.World.{State, start, run}
 use Rattle.tb_flwor.specs.declared.fault.QueryFault.{QueryFault}
 use Rattle.tb_top.specs.QueryText.{HasQuery}
-use Rattle.tb_top.specs.QueryFaults.{IsRefused}
+use Rattle.tb_flwor.specs.Faults.{IsRefused}
 use Rattle.tb_top.specs.Deeds.{Deed, IsResult, events_of, history_of}
 use Rattle.tb_top.specs.Transcript.{transcript_of}
 

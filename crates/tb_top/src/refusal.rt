@@ -1,7 +1,7 @@
 //! Whether a query is refused.
 
 ghost use Rattle.std.specs.Prelude.{IfOk};
-ghost use Rattle.tb_top.specs.QueryFaults.{IsFaultOf};
+ghost use Rattle.tb_flwor.specs.Faults.{IsFaultOf};
 
 use std::alloc::{AllocError, Global};
 use tb_flwor::{QueryFault, read_query};

@@ -11,7 +11,7 @@ ghost use Rattle.tb_core.specs.World.{IsAllowed, answer, after, told_at};
 ghost use Rattle.tb_script.specs.declared.command.Command.TheVariants as command;
 ghost use Rattle.tb_script.specs.Runnable.{IsRunnable};
 ghost use Rattle.tb_top.specs.QueryText.{HasQuery};
-ghost use Rattle.tb_top.specs.QueryFaults.{IsFaultOf};
+ghost use Rattle.tb_flwor.specs.Faults.{IsFaultOf};
 ghost use Rattle.tb_top.specs.Single.{IsBuilt, world_of};
 ghost use Rattle.std.specs.List.{range_with_len};
 ghost use Rattle.tb_top.specs.Running.{progress_of, at_start, begun, Stands, IsReadyFor, Does};

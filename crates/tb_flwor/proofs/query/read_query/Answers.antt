@@ -32,4 +32,4 @@ returns c =
     let checked : Checks s (Ok c.in_ok-names.names) = rw (c.as_slice-2.ensures.value, lexemes_are) at c.in_ok-names.ensures in
     let asks : Asks s c.in_ok-query.field-0 = rw (c.as_slice-3.ensures.value, lexemes_are) at c.in_ok-query.ensures in
     let digits = digits-of_cut text cut None c.in_ok-tokens.ensures.1 in
-    (cut, (c.in_ok-tokens.ensures, (checked.0, checked.1, asks (query-comes s checked.0 checked.1 digits))))
+    (cut, (c.in_ok-tokens.ensures, (checked.0, asks (query-comes s checked.0.0 checked.0.1 digits))))

@@ -2,7 +2,7 @@
 use Rattle.std.proofs.Common.{◌≡◌, ◌↔◌, IsTrue, Option, Some, None, refl, sym, ◌∙◌, ap, subst}
 use Rattle.std.specs.Option.{is_some, option_map}
 use Rattle.tb_script.specs.declared.command.Command.TheVariants.{Query}
-use Rattle.tb_top.specs.QueryFaults.{IsFaultOf}
+use Rattle.tb_flwor.specs.Faults.{IsFaultOf}
 use Rattle.tb_top.specs.Queries.{query_by}
 use Rattle.tb_top.specs.Single.{IsBuilt}
 use Rattle.tb_top.proofs.BuiltLaws.{found-built}

@@ -1,3 +1,0 @@
-pub mod TokenLaws
-pub mod ResultLaws
-pub mod EventLaws

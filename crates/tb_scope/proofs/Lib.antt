@@ -1,4 +1,0 @@
-pub mod NameLaws
-pub mod AttributeLaws
-pub mod VariableRows
-pub mod ConstructorRows
