@@ -17,7 +17,7 @@ use Rattle.tb_query.specs.declared.clause.Clause.TheVariants.{For, Let}
 use Rattle.tb_query.specs.declared.path.Path.{Path}
 use Rattle.tb_flwor.specs.Value.{Names, bind_from, more_binds, clause_from, more_clauses}
 use Rattle.tb_flwor.specs.Built.{Gives, GivesAll, IsLongpath, allowing, IsAllowed, AreBinds, AreMoreClauses, BuildsClauses}
-use Rattle.tb_flwor.proofs.RunLaws.{SoFar, far-start, far-next, run-end, behind-builds}
+use Rattle.tb_flwor.proofs.RunLaws.{ListSoFar, Puts, list-start, list-next, list-end, behind-next, behind-end}
 
 abbrev Next : List Tok → Tree → Type 0
 Next s v = v ≡ next s
@@ -77,32 +77,23 @@ module _ (names : Names) where
   abbrev comma_letter : List ℕ
   comma_letter = letters.COMMA ∷ []
 
-  abbrev pub put : List Clause → List Clause → List Clause
-  put found behind = found ++ behind
-
   abbrev pub BindsSoFar : List Clause → List Clause → List Tok → List Tok → Type 0
-  BindsSoFar = SoFar other_bind put (more_binds names)
+  BindsSoFar = ListSoFar other_bind (more_binds names)
 
   pub binds-start : (old : List Clause) (s : List Tok) → BindsSoFar old old s s
-  binds-start old s = far-start other_bind put (more_binds names) old s
+  binds-start old s = list-start other_bind (more_binds names) old s
 
   pub binds-next : (old found : List Clause) (is : Clause) (s mid left : List Tok) → begins comma_letter mid ≡ true → BindsSoFar old found s mid
       → Builds bind (Gives (bind_from names) is) (drop 1 mid) left → length left ≤ length (drop 1 mid) → BindsSoFar old (found ++ is ∷ []) s left
   binds-next old found is s mid left e far gives shorter =
-      far-next other_bind put (more_binds names) old found (found ++ is ∷ []) s mid left refl e far
-      (behind-builds comma_letter bind (Gives (bind_from names) is) (λ v. (w : Tree) → found ++ more_binds names (pair v w) ≡ (found ++ is ∷ []) ++ more_binds names w) mid left
-      (λ a v g w. ap (λ x. found ++ x) (g (more_binds names w)) ∙ sym (append_assoc found (is ∷ []) (more_binds names w))) gives)
-      (omega (arith, length-drop 1 mid))
+      behind-next bind (bind_from names) (more_binds names) comma_letter old found is s mid left (λ a v w. refl) e far gives shorter
 
   pub binds-end : (is : Clause) (found : List Clause) (s mid left : List Tok) → begins comma_letter left ≡ false → Builds bind (Gives (bind_from names) is) s mid
       → BindsSoFar (is ∷ []) found mid left → Builds (list_of comma bind) (AreBinds names found) s left
   binds-end is found s mid left e gives far =
-      builds-as (list_of comma bind) (Both (Gives (bind_from names) is) (λ v. is ∷ more_binds names v ≡ found ++ [])) (AreBinds names found) s left
-      (λ v b w behind.
-      ap (λ x. clause_from names (first (pair w x)) behind) b.pair_is
-      ∙ ap (λ x. x ++ behind) (b.one_is (more_binds names b.two) ∙ b.two_is ∙ append-nil found))
-      (both-builds bind (many other_bind) (Gives (bind_from names) is) (λ v. is ∷ more_binds names v ≡ found ++ []) s mid left gives
-      (run-end other_bind put (more_binds names) (is ∷ []) found mid left e far.built))
+      builds-as (list_of comma bind) (Both (Gives (bind_from names) is) (λ v. is ∷ more_binds names v ≡ found)) (AreBinds names found) s left
+      (λ v b w behind. ap (λ x. clause_from names (first (pair w x)) behind) b.pair_is ∙ ap (λ x. x ++ behind) (b.one_is (more_binds names b.two) ∙ b.two_is))
+      (behind-end bind (bind_from names) (more_binds names) comma_letter is found s mid left refl e gives far)
 
   -- A clause.
 
@@ -148,17 +139,16 @@ module _ (names : Names) where
   clause_letters = letters.FOR ∷ letters.LET ∷ []
 
   abbrev pub ClausesSoFar : List Clause → List Clause → List Tok → List Tok → Type 0
-  ClausesSoFar = SoFar clause put (more_clauses names)
+  ClausesSoFar = ListSoFar clause (more_clauses names)
 
   pub clauses-start : (old : List Clause) (s : List Tok) → ClausesSoFar old old s s
-  clauses-start old s = far-start clause put (more_clauses names) old s
+  clauses-start old s = list-start clause (more_clauses names) old s
 
   pub clauses-next : (old found are : List Clause) (s mid left : List Tok) → begins clause_letters mid ≡ true → ClausesSoFar old found s mid
       → Builds clause (GivesAll (clause_from names) are) mid left → length left ≤ length mid - 1 → ClausesSoFar old (found ++ are) s left
   clauses-next old found are s mid left e far gives shorter =
-      far-next clause put (more_clauses names) old found (found ++ are) s mid left refl e far
-      (builds-as clause (GivesAll (clause_from names) are) (λ v. (w : Tree) → found ++ more_clauses names (pair v w) ≡ (found ++ are) ++ more_clauses names w) mid left
-      (λ v g w. ap (λ x. found ++ x) (g (more_clauses names w)) ∙ sym (append_assoc found are (more_clauses names w))) gives)
+      list-next clause (more_clauses names) old found are s mid left refl e far
+      (builds-as clause (GivesAll (clause_from names) are) (Puts clause (more_clauses names) are) mid left (λ v g w. g (more_clauses names w)) gives)
       (omega arith)
 
   pub clauses-end : (first_are found : List Clause) (s mid left : List Tok) → begins clause_letters left ≡ false → Builds clause (GivesAll (clause_from names) first_are) s mid
@@ -167,7 +157,5 @@ module _ (names : Names) where
     mid = mid;
     first_are = first_are;
     one = gives;
-    others =
-        builds-as (many clause) (λ v. first_are ++ more_clauses names v ≡ found ++ []) (AreMoreClauses names first_are found) mid left (λ v f. f ∙ append-nil found)
-        (run-end clause put (more_clauses names) first_are found mid left e far.built);
+    others = list-end clause (more_clauses names) first_are found mid left refl e far;
   }

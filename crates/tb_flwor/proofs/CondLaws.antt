@@ -22,7 +22,7 @@ use Rattle.tb_query.specs.declared.operand.Right.{Right}
 use Rattle.tb_query.specs.declared.operand.Right.TheVariants as right
 use Rattle.tb_flwor.specs.Value.{Names, right_of, cond_from, more_conds, conds_of}
 use Rattle.tb_flwor.specs.Built.{Gives, IsOperand, IsRight, AreConds}
-use Rattle.tb_flwor.proofs.RunLaws.{SoFar, far-start, far-next, run-end, behind-builds}
+use Rattle.tb_flwor.proofs.RunLaws.{ListSoFar, list-start, behind-next, behind-end}
 
 abbrev Next : List Tok → Tree → Type 0
 Next s v = v ≡ next s
@@ -101,26 +101,20 @@ module _ (names : Names) where
   abbrev other_cond : Part
   other_cond = both (word (codes "AND")) cond
 
-  abbrev put : List Comparison → List Comparison → List Comparison
-  put found behind = found ++ behind
-
   abbrev pub CondsSoFar : List Comparison → List Comparison → List Tok → List Tok → Type 0
-  CondsSoFar = SoFar other_cond put (more_conds names)
+  CondsSoFar = ListSoFar other_cond (more_conds names)
 
   pub conds-start : (old : List Comparison) (s : List Tok) → CondsSoFar old old s s
-  conds-start old s = far-start other_cond put (more_conds names) old s
+  conds-start old s = list-start other_cond (more_conds names) old s
 
   pub conds-next : (old found : List Comparison) (is : Comparison) (s mid left : List Tok) → begins and_letter mid ≡ true → CondsSoFar old found s mid
       → Builds cond (Gives (cond_from names) is) (drop 1 mid) left → length left ≤ length (drop 1 mid) → CondsSoFar old (found ++ is ∷ []) s left
   conds-next old found is s mid left e far gives shorter =
-      far-next other_cond put (more_conds names) old found (found ++ is ∷ []) s mid left refl e far
-      (behind-builds and_letter cond (Gives (cond_from names) is) (λ v. (w : Tree) → found ++ more_conds names (pair v w) ≡ (found ++ is ∷ []) ++ more_conds names w) mid left
-      (λ a v g w. ap (λ x. found ++ x) (g (more_conds names w)) ∙ sym (append_assoc found (is ∷ []) (more_conds names w))) gives)
-      (omega (arith, length-drop 1 mid))
+      behind-next cond (cond_from names) (more_conds names) and_letter old found is s mid left (λ a v w. refl) e far gives shorter
 
   module _ (is : Comparison) (found : List Comparison) (s mid left : List Tok) where
     abbrev Listed : Tree → Type 0
-    Listed = Both (Gives (cond_from names) is) (λ v. is ∷ more_conds names v ≡ found ++ [])
+    Listed = Both (Gives (cond_from names) is) (λ v. is ∷ more_conds names v ≡ found)
 
     pub conds-end : begins where_letter s ≡ true → begins and_letter left ≡ false → Builds cond (Gives (cond_from names) is) (drop 1 s) mid
         → CondsSoFar (is ∷ []) found mid left → Builds (maybe where_part) (AreConds names found) s left
@@ -129,10 +123,9 @@ module _ (names : Names) where
         (builds-as where_part (Both (Next s) Listed) (AreConds names found) s left
         (λ v b.
         let l = b.two_is in
-        ap (conds_of names) (b.pair_is ∙ ap (λ x. pair b.one x) l.pair_is) ∙ l.one_is (more_conds names l.two) ∙ l.two_is ∙ append-nil found)
+        ap (conds_of names) (b.pair_is ∙ ap (λ x. pair b.one x) l.pair_is) ∙ l.one_is (more_conds names l.two) ∙ l.two_is)
         (both-builds (word (codes "WHERE")) (list_of (word (codes "AND")) cond) (Next s) Listed s (drop 1 s) left (one-builds where_letter s)
-        (both-builds cond (many other_cond) (Gives (cond_from names) is) (λ v. is ∷ more_conds names v ≡ found ++ []) (drop 1 s) mid left gives
-        (run-end other_cond put (more_conds names) (is ∷ []) found mid left f far.built))))
+        (behind-end cond (cond_from names) (more_conds names) and_letter is found (drop 1 s) mid left refl f gives far)))
 
   pub conds-none : (s : List Tok) → begins where_letter s ≡ false → Builds (maybe where_part) (AreConds names []) s s
   conds-none s e = builds-as (maybe where_part) (λ v. v ≡ nothing) (AreConds names []) s s (λ v f. ap (conds_of names) f) (left_out-builds where_part s e)

@@ -23,7 +23,7 @@ use Rattle.tb_query.specs.declared.path.Path.{Path}
 use Rattle.tb_flwor.specs.Value.{Names}
 use Rattle.tb_flwor.specs.Results.{attr_from, attrs_of, cons_in, cons_behind, parts_in, part_from, back_in}
 use Rattle.tb_flwor.specs.Built.{Gives, IsPath, IsContent, AreAttrs, IsCons, inside, AreInside, IsPart, AreParts, IsBack}
-use Rattle.tb_flwor.proofs.RunLaws.{SoFar, far-start, far-next, run-end, many-none}
+use Rattle.tb_flwor.proofs.RunLaws.{SoFar, far-start, far-next, run-end, ListSoFar, list-start, list-end, item-next, many-none}
 use Rattle.tb_flwor.proofs.Views.{cons_of-Cons, part_of-Cons, part_of-Content}
 
 abbrev Next : List Tok → Tree → Type 0
@@ -65,28 +65,20 @@ module _ (names : Names) where
         (both-builds name (both (sign (codes "=")) (either string braced)) (Next s) From s (drop 1 s) left (one-builds letters.NAMES s)
         (both-builds (sign (codes "=")) (either string braced) (Next (drop 1 s)) (IsContent names is) (drop 1 s) (drop 1 (drop 1 s)) left (one-builds (letter (codes "=")) (drop 1 s)) content_is))
 
-  abbrev put : List AttrPart → List AttrPart → List AttrPart
-  put found behind = found ++ behind
-
   abbrev pub AttrsSoFar : List AttrPart → List Tok → List Tok → Type 0
-  AttrsSoFar found s left = SoFar attr put (attrs_of names) [] found s left
+  AttrsSoFar = ListSoFar attr (attrs_of names) []
 
   pub attrs-next : (found : List AttrPart) (is : AttrPart) (s mid left : List Tok) → begins letters.NAMES mid ≡ true → AttrsSoFar found s mid
       → Builds attr (Gives (attr_from names) is) mid left → length left ≤ length mid - 1 → AttrsSoFar (found ++ is ∷ []) s left
   attrs-next found is s mid left e far gives shorter =
-      far-next attr put (attrs_of names) [] found (found ++ is ∷ []) s mid left refl e far
-      (builds-as attr (Gives (attr_from names) is) (λ v. (w : Tree) → found ++ attrs_of names (pair v w) ≡ (found ++ is ∷ []) ++ attrs_of names w) mid left
-      (λ v g w. ap (λ x. found ++ x) (g (attrs_of names w)) ∙ sym (append_assoc found (is ∷ []) (attrs_of names w))) gives)
-      (omega arith)
+      item-next attr (attr_from names) (attrs_of names) [] found is s mid left (λ v w. refl) refl e far gives shorter
 
   pub attrs-first : (is : AttrPart) (s left : List Tok) → begins letters.NAMES s ≡ true → Builds attr (Gives (attr_from names) is) s left → length left ≤ length s - 1
       → AttrsSoFar (is ∷ []) s left
-  attrs-first is s left e gives shorter = attrs-next [] is s s left e (far-start attr put (attrs_of names) [] s) gives shorter
+  attrs-first is s left e gives shorter = attrs-next [] is s s left e (list-start attr (attrs_of names) [] s) gives shorter
 
   pub attrs-end : (found : List AttrPart) (s left : List Tok) → begins letters.NAMES left ≡ false → AttrsSoFar found s left → Builds (many attr) (AreAttrs names found) s left
-  attrs-end found s left e far =
-      builds-as (many attr) (λ v. attrs_of names v ≡ found ++ []) (AreAttrs names found) s left (λ v f. f ∙ append-nil found)
-      (run-end attr put (attrs_of names) [] found s left e far.built)
+  attrs-end found s left e far = list-end attr (attrs_of names) [] found s left refl e far
 
   pub attrs-none : (s : List Tok) → begins letters.NAMES s ≡ false → Builds (many attr) (AreAttrs names []) s s
   attrs-none s e = builds-as (many attr) (λ v. v ≡ nothing) (AreAttrs names []) s s (λ v f. ap (attrs_of names) f) (many-none attr s e)

@@ -18,7 +18,7 @@ use Rattle.tb_query.specs.declared.operand.Operand.{Operand}
 use Rattle.tb_query.specs.declared.path.Path.{Path}
 use Rattle.tb_flwor.specs.Value.{Names, is_word, group_of, key_from, more_keys, keys_of}
 use Rattle.tb_flwor.specs.Built.{Gives, IsPath, IsOperand, IsGroup, direction, IsTurned, AreKeys}
-use Rattle.tb_flwor.proofs.RunLaws.{SoFar, far-start, far-next, run-end, behind-builds}
+use Rattle.tb_flwor.proofs.RunLaws.{ListSoFar, list-start, behind-next, behind-end}
 
 abbrev Next : List Tok → Tree → Type 0
 Next s v = v ≡ next s
@@ -108,26 +108,20 @@ module _ (names : Names) where
   abbrev other_key : Part
   other_key = both comma key
 
-  abbrev put : List Key → List Key → List Key
-  put found behind = found ++ behind
-
   abbrev pub KeysSoFar : List Key → List Key → List Tok → List Tok → Type 0
-  KeysSoFar = SoFar other_key put (more_keys names)
+  KeysSoFar = ListSoFar other_key (more_keys names)
 
   pub keys-start : (old : List Key) (s : List Tok) → KeysSoFar old old s s
-  keys-start old s = far-start other_key put (more_keys names) old s
+  keys-start old s = list-start other_key (more_keys names) old s
 
   pub keys-next : (old found : List Key) (is : Key) (s mid left : List Tok) → begins comma_letter mid ≡ true → KeysSoFar old found s mid
       → Builds key (Gives (key_from names) is) (drop 1 mid) left → length left ≤ length (drop 1 mid) → KeysSoFar old (found ++ is ∷ []) s left
   keys-next old found is s mid left e far gives shorter =
-      far-next other_key put (more_keys names) old found (found ++ is ∷ []) s mid left refl e far
-      (behind-builds comma_letter key (Gives (key_from names) is) (λ v. (w : Tree) → found ++ more_keys names (pair v w) ≡ (found ++ is ∷ []) ++ more_keys names w) mid left
-      (λ a v g w. ap (λ x. found ++ x) (g (more_keys names w)) ∙ sym (append_assoc found (is ∷ []) (more_keys names w))) gives)
-      (omega (arith, length-drop 1 mid))
+      behind-next key (key_from names) (more_keys names) comma_letter old found is s mid left (λ a v w. refl) e far gives shorter
 
   module _ (is : Key) (found : List Key) (s mid left : List Tok) where
     abbrev Listed : Tree → Type 0
-    Listed = Both (Gives (key_from names) is) (λ v. is ∷ more_keys names v ≡ found ++ [])
+    Listed = Both (Gives (key_from names) is) (λ v. is ∷ more_keys names v ≡ found)
 
     abbrev Ordered : Tree → Type 0
     Ordered = Both (Next (drop 1 s)) Listed
@@ -140,11 +134,10 @@ module _ (names : Names) where
         (λ v b.
         let o = b.two_is in
         let l = o.two_is in
-        ap (keys_of names) (b.pair_is ∙ ap (λ x. pair b.one x) (o.pair_is ∙ ap (λ x. pair o.one x) l.pair_is)) ∙ l.one_is (more_keys names l.two) ∙ l.two_is ∙ append-nil found)
+        ap (keys_of names) (b.pair_is ∙ ap (λ x. pair b.one x) (o.pair_is ∙ ap (λ x. pair o.one x) l.pair_is)) ∙ l.one_is (more_keys names l.two) ∙ l.two_is)
         (both-builds (word (codes "ORDER")) (both (word (codes "BY")) (list_of comma key)) (Next s) Ordered s (drop 1 s) left (one-builds (word_letter (codes "ORDER")) s)
         (both-builds (word (codes "BY")) (list_of comma key) (Next (drop 1 s)) Listed (drop 1 s) (drop 1 (drop 1 s)) left (one-builds (word_letter (codes "BY")) (drop 1 s))
-        (both-builds key (many other_key) (Gives (key_from names) is) (λ v. is ∷ more_keys names v ≡ found ++ []) (drop 1 (drop 1 s)) mid left gives
-        (run-end other_key put (more_keys names) (is ∷ []) found mid left f far.built)))))
+        (behind-end key (key_from names) (more_keys names) comma_letter is found (drop 1 (drop 1 s)) mid left refl f gives far))))
 
   pub keys-none : (s : List Tok) → begins (word_letter (codes "ORDER")) s ≡ false → Builds (maybe order) (AreKeys names []) s s
   keys-none s e = builds-as (maybe order) (λ v. v ≡ nothing) (AreKeys names []) s s (λ v f. ap (keys_of names) f) (left_out-builds order s e)

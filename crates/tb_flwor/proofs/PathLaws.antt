@@ -20,7 +20,7 @@ use Rattle.tb_query.specs.declared.path.Start.TheVariants as start
 use Rattle.tb_query.specs.declared.path.Step.{Step}
 use Rattle.tb_flwor.specs.Value.{Names, step_from, more_steps, steps_of, path_of, longpath_of, document_in}
 use Rattle.tb_flwor.specs.Built.{Gives, IsDocument, AreSteps, AreMore, IsStart, IsPath, IsLongpath}
-use Rattle.tb_flwor.proofs.RunLaws.{SoFar, far-next, run-end, many-built, many-none}
+use Rattle.tb_flwor.proofs.RunLaws.{ListSoFar, item-next, list-end, many-built, many-none}
 
 abbrev Next : List Tok → Tree → Type 0
 Next s v = v ≡ next s
@@ -34,30 +34,21 @@ step-builds s left is test_is =
 
 -- { step }, behind the first
 
-abbrev pub put : List Step → List Step → List Step
-put found behind = found ++ behind
-
-pub step-adds : (found : List Step) (is : Step) (s left : List Tok) → Builds step (Gives step_from is) s left
-    → Builds step (λ v. (w : Tree) → found ++ more_steps (pair v w) ≡ (found ++ is ∷ []) ++ more_steps w) s left
-step-adds found is s left gives =
-    builds-as step (Gives step_from is) (λ v. (w : Tree) → found ++ more_steps (pair v w) ≡ (found ++ is ∷ []) ++ more_steps w) s left
-    (λ v g w. ap (λ x. found ++ x) (g (more_steps w)) ∙ sym (append_assoc found (is ∷ []) (more_steps w))) gives
-
 abbrev pub StepsSoFar : List Step → List Step → List Tok → List Tok → Type 0
-StepsSoFar = SoFar step put more_steps
+StepsSoFar = ListSoFar step more_steps
 
 pub steps-next : (old found : List Step) (is : Step) (s mid left : List Tok) → begins letters.AXES mid ≡ true → StepsSoFar old found s mid
     → Builds step (Gives step_from is) mid left → length left ≤ length mid - 1 → StepsSoFar old (found ++ is ∷ []) s left
 steps-next old found is s mid left e far gives shorter =
-    far-next step put more_steps old found (found ++ is ∷ []) s mid left refl e far (step-adds found is mid left gives) (omega arith)
+    item-next step step_from more_steps old found is s mid left (λ v w. refl) refl e far gives shorter
 
 pub steps-end : (is : Step) (found : List Step) (s mid left : List Tok) → begins letters.AXES left ≡ false → Builds step (Gives step_from is) s mid
     → StepsSoFar (is ∷ []) found mid left → Builds steps (AreSteps found) s left
 steps-end is found s mid left e gives far =
-    builds-as steps (Both (Gives step_from is) (λ v. is ∷ more_steps v ≡ found ++ [])) (AreSteps found) s left
-    (λ v b. ap steps_of b.pair_is ∙ b.one_is (more_steps b.two) ∙ b.two_is ∙ append-nil found)
-    (both-builds step (many step) (Gives step_from is) (λ v. is ∷ more_steps v ≡ found ++ []) s mid left gives
-    (run-end step put more_steps (is ∷ []) found mid left e far.built))
+    builds-as steps (Both (Gives step_from is) (λ v. is ∷ more_steps v ≡ found)) (AreSteps found) s left
+    (λ v b. ap steps_of b.pair_is ∙ b.one_is (more_steps b.two) ∙ b.two_is)
+    (both-builds step (many step) (Gives step_from is) (λ v. is ∷ more_steps v ≡ found) s mid left gives
+    (list-end step more_steps (is ∷ []) found mid left refl e far))
 
 steps-more : (v : Tree) (are : List Step) → AreSteps are v → AreMore are v
 steps-more (pair v w) are is = is

@@ -1,6 +1,7 @@
--- A part any number of times, built one after the other.
-use Rattle.std.proofs.Common.{◌≡◌, ℕ, Bool, true, false, ◌≤◌, List, [], ◌∷◌, length, drop, Some, refl, sym, ◌∙◌, arith}
+-- The law of a list in the grammar: a part any number of times, built one after the other.
+use Rattle.std.proofs.Common.{◌≡◌, ℕ, Bool, true, false, ◌≤◌, ◌-◌, List, [], ◌∷◌, ◌++◌, length, drop, Some, refl, sym, ap, ◌∙◌, append_assoc, append-nil, length-drop, arith}
 use Rattle.tb_token.specs.grammar.Grammar.{Tok, Part, one, both, many}
+use Rattle.tb_token.specs.grammar.Terminals.{list_of}
 use Rattle.tb_token.specs.grammar.Words.{Tree, nothing, pair, Derives, by_both, no_more, one_more}
 use Rattle.tb_token.specs.grammar.Reading.{is_filled, own_starts, read}
 use Rattle.tb_token.proofs.grammar.PlaceLaws.{read-both, read-one_more, read-no_more}
@@ -84,12 +85,70 @@ module _ (p : Part) {A B : Type 0} (put : B → A → A) (more : Tree → A) whe
     shorter = let before = far.shorter in omega arith;
   }
 
+-- what was found, before what is behind it
+abbrev pub put : {A : Type 0} → List A → List A → List A
+put found behind = found ++ behind
+
 -- A token and then the part is built by the part behind the token.
 pub behind-builds : (c : List ℕ) (p : Part) (P Q : Tree → Type 0) (s left : List Tok) → ((a v : Tree) → P v → Q (pair a v)) → Builds p P (drop 1 s) left → Builds (both (one c) p) Q s left
 behind-builds c p P Q s left says is =
     builds-as (both (one c) p) (Both (λ v. v ≡ next s) P) Q s left
     (λ v b. rw b.pair_is (says b.one b.two b.two_is))
     (both-builds (one c) p (λ v. v ≡ next s) P s (drop 1 s) left (one-builds c s) is)
+
+-- A repetition that stands for a list of items, where `more` is the list of its tree.
+module _ (p : Part) {A : Type 0} (more : Tree → List A) where
+  abbrev pub ListSoFar : List A → List A → List Tok → List Tok → Type 0
+  ListSoFar = SoFar p put more
+
+  -- one more of the part stands for these items before those behind it
+  abbrev pub Puts : List A → Tree → Type 0
+  Puts are v = (w : Tree) → more (pair v w) ≡ are ++ more w
+
+  pub list-start : (old : List A) (s : List Tok) → ListSoFar old old s s
+  list-start old s = far-start p put more old s
+
+  pub list-next : (old found are : List A) (s mid left : List Tok) → is_filled p ≡ true → begins (own_starts p) mid ≡ true → ListSoFar old found s mid
+      → Builds p (Puts are) mid left → length left ≤ length mid → ListSoFar old (found ++ are) s left
+  list-next old found are s mid left filled e far puts shorter =
+      far-next p put more old found (found ++ are) s mid left filled e far
+      (builds-as p (Puts are) (Adds p put more found (found ++ are)) mid left (λ v g w. ap (λ x. found ++ x) (g w) ∙ sym (append_assoc found are (more w))) puts)
+      shorter
+
+  pub list-end : (old found : List A) (s left : List Tok) → more nothing ≡ [] → begins (own_starts p) left ≡ false → ListSoFar old found s left
+      → Builds (many p) (λ v. old ++ more v ≡ found) s left
+  list-end old found s left none e far =
+      builds-as (many p) (AddsAll p put more old found) (λ v. old ++ more v ≡ found) s left (λ v f. f ∙ ap (λ x. found ++ x) none ∙ append-nil found)
+      (run-end p put more old found s left e far.built)
+
+-- The same where each item has a part of its own, which `from` reads, alone or behind a token.
+module _ (item : Part) {A : Type 0} (from : Tree → List A → List A) (more : Tree → List A) where
+  abbrev pub IsItem : A → Tree → Type 0
+  IsItem is v = (behind : List A) → from v behind ≡ is ∷ behind
+
+  pub item-next : (old found : List A) (is : A) (s mid left : List Tok) → ((v w : Tree) → more (pair v w) ≡ from v (more w)) → is_filled item ≡ true → begins (own_starts item) mid ≡ true
+      → ListSoFar item more old found s mid → Builds item (IsItem is) mid left → length left ≤ length mid - 1 → ListSoFar item more old (found ++ is ∷ []) s left
+  item-next old found is s mid left pairs filled e far gives shorter =
+      list-next item more old found (is ∷ []) s mid left filled e far
+      (builds-as item (IsItem is) (Puts item more (is ∷ [])) mid left (λ v g w. pairs v w ∙ g (more w)) gives)
+      (omega arith)
+
+  module _ (c : List ℕ) where
+    pub behind-next : (old found : List A) (is : A) (s mid left : List Tok) → ((a v w : Tree) → more (pair (pair a v) w) ≡ from v (more w)) → begins c mid ≡ true
+        → ListSoFar (both (one c) item) more old found s mid → Builds item (IsItem is) (drop 1 mid) left → length left ≤ length (drop 1 mid)
+        → ListSoFar (both (one c) item) more old (found ++ is ∷ []) s left
+    behind-next old found is s mid left pairs e far gives shorter =
+        list-next (both (one c) item) more old found (is ∷ []) s mid left refl e far
+        (behind-builds c item (IsItem is) (Puts (both (one c) item) more (is ∷ [])) mid left (λ a v g w. pairs a v w ∙ g (more w)) gives)
+        (omega (arith, length-drop 1 mid))
+
+    -- an item, and others behind tokens
+    pub behind-end : (is : A) (found : List A) (s mid left : List Tok) → more nothing ≡ [] → begins c left ≡ false → Builds item (IsItem is) s mid
+        → ListSoFar (both (one c) item) more (is ∷ []) found mid left
+        → Builds (list_of (one c) item) (Both (IsItem is) (λ v. is ∷ more v ≡ found)) s left
+    behind-end is found s mid left none e gives far =
+        both-builds item (many (both (one c) item)) (IsItem is) (λ v. is ∷ more v ≡ found) s mid left gives
+        (list-end (both (one c) item) more (is ∷ []) found mid left none e far)
 
 -- A part once or more is the part any number of times, with the same tree.
 

@@ -2,12 +2,12 @@
 use Rattle.std.proofs.Common.{sym, ◌∙◌}
 use Rattle.tb_token.specs.grammar.Paths.{step}
 use Rattle.tb_flwor.specs.Value.{more_steps}
-use Rattle.tb_flwor.proofs.RunLaws.{far-start}
-use Rattle.tb_flwor.proofs.PathLaws.{put, steps-next, steps-end}
+use Rattle.tb_flwor.proofs.RunLaws.{list-start}
+use Rattle.tb_flwor.proofs.PathLaws.{steps-next, steps-end}
 use Rattle.tb_flwor.proofs.path.steps.Goals as goal
 
 pub steps-init : goal.steps-init
-steps-init c = far-start step put more_steps c.push.new.self.items c.in_ok-first.left.now
+steps-init c = list-start step more_steps c.push.new.self.items c.in_ok-first.left.now
 
 pub steps-preserved : goal.steps-preserved
 steps-preserved c =
