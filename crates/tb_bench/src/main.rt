@@ -12,16 +12,14 @@ ghost use Rattle.tb_tree.specs.Numbers.{count};
 ghost use Rattle.tb_tree.specs.Levels.{levels};
 
 use std::alloc::{AllocError, Global};
-use std::marker::Brand;
 use std::process::ExitCode;
-use std::sync::ledger::{Blank, Ledger};
 use std::time::Instant;
 use std::{env, io};
 use tb_edge::{HostSource, read_up_to};
 use tb_esis::read_tree;
 use tb_label::Store;
-use tb_span::{Axis, Pair, Steps};
-use tb_stackjoin::join_desc;
+use tb_span::{Axis, Pair};
+use tb_stackjoin::whole_join;
 use tb_tree::{Bytes, Test, Tree, value};
 
 mod script;
@@ -121,30 +119,11 @@ fn time_join(rt: &HostRuntime, store: &Store, name: &str, axis: Axis) -> io::Res
     let part = named(rt.alloc(), b"part")?;
     let item = named(rt.alloc(), b"item")?;
     let start = Instant::now(rt)?;
-    let pairs = joined::<Brand>(rt.alloc(), Blank::new(1), store, &part, &item, axis)?;
+    let pairs = whole_join(rt.alloc(), store.list(&part), store.list(&item), axis)?;
     let took = start.elapsed(rt)?;
     println!(rt; "{name} {}", pairs.len())?;
     println!(rt; "{name}-sum {}", pairs_sum(&pairs))?;
     eprintln!(rt; "{name} {}", took.as_nanos())
-}
-
-/// The pairs of the nodes that meet two tests.
-fn joined<L: Ledger>(
-    alloc: Global,
-    blank: Blank,
-    store: &Store,
-    above: &Test,
-    below: &Test,
-    axis: Axis,
-) -> Result<Vec<Pair>, AllocError>
-    requires name { blank.name ≡ L.name }
-    requires parts { blank.parts ≡ L.parts }
-    requires some { 0 < L.parts }
-{
-    let a = store.list(above);
-    let d = store.list(below);
-    let mut steps = Steps::<L>::new(blank);
-    join_desc(alloc, a, d, &[], 0, 0, d.len() as u32, axis, &mut steps)
 }
 
 /// A number that differs where the pairs do, most likely.

@@ -3,8 +3,6 @@
 ghost use Rattle.std.specs.Prelude.{◌≡◌, ◌+◌, [], ◌<◌, ◌≤◌, ◌^◌, IfOk, length, map};
 ghost use Rattle.tb_span.specs.Lists.{AreJoinable};
 ghost use Rattle.tb_span.specs.Seeds.{IsSeed};
-ghost use Rattle.tb_stackjoin.specs.Pairs.{pairs_by_descendant};
-ghost use Rattle.tb_stackjoin.specs.Turns.{most_steps};
 
 mod checked;
 
@@ -50,22 +48,6 @@ struct Outcome {
     pairs: Vec<Pair>,
 }
 
-// A whole join begins with no seed.
-fn whole_join<L: Ledger>(
-    alloc: Global,
-    a: &[Item],
-    d: &[Item],
-    axis: Axis,
-    steps: &mut Steps<L>,
-) -> Result<Vec<Pair>, AllocError>
-    requires joinable { AreJoinable a.now d.now }
-    requires few { (length a.now < 2 ^ 32) × (length d.now < 2 ^ 32) }
-    ensures pairs { IfOk result (λ pairs. pairs.items ≡ pairs_by_descendant axis a.now d.now 0 (length d.now)) }
-    ensures cost { steps.new ≤ steps.old + most_steps a.now d.now [] 0 0 (length d.now) }
-{
-    join_desc(alloc, a, d, &[], 0, 0, d.len() as u32, axis, steps)
-}
-
 // Joins the range from place `lo` to the end of `d`, and compares its pairs with those of the twin and with
 // the last ones of the whole join.
 fn joined<L: Ledger>(
@@ -95,7 +77,7 @@ fn joined<L: Ledger>(
     if pairs != plain {
         Err("the join and its twin differ")?;
     }
-    let whole = whole_join(alloc, &a, &d, axis, &mut steps)?;
+    let whole = whole_join(alloc, &a, &d, axis)?;
     if !whole.ends_with(&pairs) {
         Err("the range and the whole join differ")?;
     }

@@ -1,24 +1,19 @@
 //! Which nodes match a query of two names: two structural joins over the labels of a store.
 
-ghost use Rattle.std.specs.Prelude.{◌≡◌, ◌+◌, ◌^◌, ◌<◌, ◌≤◌, [], IfOk, OnOk, length, map};
+ghost use Rattle.std.specs.Prelude.{◌≡◌, ◌<◌, IfOk, OnOk, length, map};
 ghost use Rattle.tb_tree.specs.View.{plain_of};
 ghost use Rattle.tb_tree.specs.declared.node_test.Test.TheVariants.{Name};
-ghost use Rattle.tb_span.specs.Lists.{AreJoinable};
-ghost use Rattle.tb_span.specs.declared.item.Axis.TheVariants.{Descendant};
 ghost use Rattle.tb_label.specs.Rows.{listed};
-ghost use Rattle.tb_stackjoin.specs.Pairs.{pairs_by_descendant, AreByAncestor};
-ghost use Rattle.tb_stackjoin.specs.Turns.{most_steps};
+ghost use Rattle.tb_stackjoin.specs.Pairs.{AreByAncestor};
 ghost use Rattle.tb_pattern.specs.Witness.{naive_witnesses, numbers_in};
 ghost use Rattle.tb_top.specs.Answer.{two_names};
 ghost use Rattle.tb_top.specs.Pairs.{numbers_of};
 ghost use Rattle.tb_top.specs.Joined.{item_at, match_at, ArePlaces};
 
 use std::alloc::{AllocError, Global};
-use std::marker::Brand;
-use std::sync::ledger::{Blank, Ledger};
 use tb_label::Store;
-use tb_span::{Axis, Item, Pair, Steps};
-use tb_stackjoin::join_desc;
+use tb_span::{Axis, Item, Pair};
+use tb_stackjoin::whole_join;
 use tb_tree::{Bytes, Test};
 
 /// A node of the first name and a node of the second below it, each by its number in document
@@ -43,7 +38,7 @@ pub fn matches(
     let second = named(alloc, second)?;
     let firsts = below_document(alloc, store, &first)?;
     let seconds = store.list(&second);
-    let mut pairs = joined::<Brand>(alloc, Blank::new(1), &firsts, seconds)?;
+    let mut pairs = whole_join(alloc, &firsts, seconds, Axis::Descendant)?;
     put_by_ancestor(&mut pairs)?;
     let found = matches_of(alloc, &firsts, seconds, &pairs)?;
     Ok(found)
@@ -61,46 +56,9 @@ fn below_document(alloc: Global, store: &Store, test: &Test) -> Result<Vec<Item>
     ensures { IfOk result (λ items. items.items ≡ listed test.now (plain_of store.now)) }
 {
     let list = store.list(test);
-    let pairs = joined::<Brand>(alloc, Blank::new(1), store.document_item(), list)?;
+    let pairs = whole_join(alloc, store.document_item(), list, Axis::Descendant)?;
     let items = descendants_of(alloc, list, &pairs)?;
     Ok(items)
-}
-
-/// The pairs of a node of `a` and a node of `d` below it, by their places, in the order of `d`.
-fn whole_join<L: Ledger>(
-    alloc: Global,
-    a: &[Item],
-    d: &[Item],
-    steps: &mut Steps<L>,
-) -> Result<Vec<Pair>, AllocError>
-    requires joinable { AreJoinable a.now d.now }
-    requires few { length d.now < 2 ^ 30 }
-    ensures pairs { IfOk result (λ pairs.
-        pairs.items ≡ pairs_by_descendant Descendant a.now d.now 0 (length d.now)) }
-    ensures cost { steps.new ≤ steps.old + most_steps a.now d.now [] 0 0 (length d.now) }
-{
-    let end = d.len() as u32;
-    join_desc(alloc, a, d, &[], 0, 0, end, Axis::Descendant, steps)
-}
-
-/// The same with a counter that nobody asks.
-fn joined<L: Ledger>(
-    alloc: Global,
-    blank: Blank,
-    a: &[Item],
-    d: &[Item],
-) -> Result<Vec<Pair>, AllocError>
-    requires name { blank.name ≡ L.name }
-    requires parts { blank.parts ≡ L.parts }
-    requires some { 0 < L.parts }
-    requires joinable { AreJoinable a.now d.now }
-    requires few { length d.now < 2 ^ 30 }
-    ensures { IfOk result (λ pairs.
-        pairs.items ≡ pairs_by_descendant Descendant a.now d.now 0 (length d.now)) }
-{
-    let mut steps = Steps::<L>::new(blank);
-    let pairs = whole_join(alloc, a, d, &mut steps)?;
-    Ok(pairs)
 }
 
 /// The nodes that the pairs have as descendants.

@@ -5,8 +5,8 @@ use Rattle.tb_span.specs.Lists.{AreJoinable}
 use Rattle.tb_top.proofs.JoinedLaws.{descendants_within, below_document-found}
 use Rattle.tb_top.proofs.matching.below_document.Goals as goal
 
-pub joined-requires-clause-joinable : goal.joined-requires-clause-joinable
-joined-requires-clause-joinable c =
+pub whole_join-requires-clause-joinable : goal.whole_join-requires-clause-joinable
+whole_join-requires-clause-joinable c =
     subst (λ d. AreJoinable c.document_item.result.now d) (sym c.list-list.ensures.items) (c.document_item.ensures.joinable c.args.test.now)
 
 pub descendants_of-requires : goal.descendants_of-requires

@@ -7,8 +7,8 @@ use Rattle.tb_top.specs.Pairs.{numbers_of}
 use Rattle.tb_top.proofs.JoinedLaws.{places_within, matches-found}
 use Rattle.tb_top.proofs.matching.matches.Goals as goal
 
-pub joined-requires-clause-joinable : goal.joined-requires-clause-joinable
-joined-requires-clause-joinable c = rw (c.deref.ensures.value, c.in_ok-firsts.ensures, c.list-seconds.ensures.items) (joinable c.in_ok-first.first c.in_ok-second.second (plain_of c.args.store.now))
+pub whole_join-requires-clause-joinable : goal.whole_join-requires-clause-joinable
+whole_join-requires-clause-joinable c = rw (c.deref.ensures.value, c.in_ok-firsts.ensures, c.list-seconds.ensures.items) (joinable c.in_ok-first.first c.in_ok-second.second (plain_of c.args.store.now))
 
 pub matches_of-requires-clause-firsts : goal.matches_of-requires-clause-firsts
 matches_of-requires-clause-firsts c =

@@ -1,0 +1,48 @@
+//! Whole joins, for callers that count no comparisons.
+
+ghost use Rattle.std.specs.Prelude.{◌≡◌, ◌^◌, ◌<◌, length, IfOk};
+ghost use Rattle.tb_span.specs.Lists.{AreJoinable};
+ghost use Rattle.tb_stackjoin.specs.Pairs.{pairs_by_descendant};
+
+use crate::by_descendant::join_desc;
+use std::alloc::{AllocError, Global};
+use std::marker::Brand;
+use std::sync::ledger::{Blank, Ledger};
+use tb_span::{Axis, Item, Pair, Steps};
+
+/// The pairs of all of `d` with their ancestors in `a`, by descendant and then by ancestor.
+pub fn whole_join(
+    alloc: Global,
+    a: &[Item],
+    d: &[Item],
+    axis: Axis,
+) -> Result<Vec<Pair>, AllocError>
+    requires joinable { AreJoinable a.now d.now }
+    requires few { length d.now < 2 ^ 32 }
+    ensures { IfOk result (λ pairs.
+        pairs.items ≡ pairs_by_descendant axis a.now d.now 0 (length d.now)) }
+{
+    uncounted::<Brand>(alloc, Blank::new(1), a, d, axis)
+}
+
+/// The same with a counter that nobody asks.
+fn uncounted<L: Ledger>(
+    alloc: Global,
+    blank: Blank,
+    a: &[Item],
+    d: &[Item],
+    axis: Axis,
+) -> Result<Vec<Pair>, AllocError>
+    requires name { blank.name ≡ L.name }
+    requires parts { blank.parts ≡ L.parts }
+    requires some { 0 < L.parts }
+    requires joinable { AreJoinable a.now d.now }
+    requires few { length d.now < 2 ^ 32 }
+    ensures { IfOk result (λ pairs.
+        pairs.items ≡ pairs_by_descendant axis a.now d.now 0 (length d.now)) }
+{
+    let mut steps = Steps::<L>::new(blank);
+    let end = d.len() as u32;
+    let pairs = join_desc(alloc, a, d, &[], 0, 0, end, axis, &mut steps)?;
+    Ok(pairs)
+}
