@@ -5,12 +5,12 @@ use Rattle.tb_tree.proofs.lists.Alls.{all-append}
 use Rattle.tb_script.specs.Lines.{whole_lines, text_of}
 use Rattle.tb_script.specs.Forms.{is_dot, form_of, name_in}
 use Rattle.tb_script.specs.Entries.{Within, no_body, load_body, query_text, alone, opened, ended_by, behind, left_open, entries, entries_of}
-use Rattle.tb_script.specs.Sessions.{turns_of, is_session, front_turns, sessions_in}
+use Rattle.tb_script.specs.Sessions.{lined_of, is_session, prefix_turns, sessions_in}
 use Rattle.tb_script.specs.Runnable.{HasBodyThatFits}
 use Rattle.tb_script.specs.declared.command.Command.{Command}
 use Rattle.tb_script.specs.declared.form.Form.{Form}
 use Rattle.tb_script.specs.declared.form.Form.TheVariants as form
-use Rattle.tb_script.specs.declared.turn.Turn.{Turn}
+use Rattle.tb_script.specs.declared.lined_command.LinedCommand.{LinedCommand}
 use Rattle.tb_script.specs.declared.entry.Said.{Said}
 use Rattle.tb_script.specs.declared.entry.Said.TheVariants.{Unknown, Session, Load, Query, Tell, Hear}
 use Rattle.tb_script.specs.declared.entry.Entry.{Entry}
@@ -82,7 +82,7 @@ entries-fit within n (line ∷ lines) few =
 pub script-fits : (bytes : List ℕ) → length bytes ≤ 67108864 → AllByRecursion Fits (entries_of bytes)
 script-fits bytes few = entries-fit no_body 1 (whole_lines bytes) (omega (arith, few, ap length (joined-whole bytes)))
 
-said-fits : (names : List (List ℕ)) (n : ℕ) (said : Said) → SaidFits said → AllByRecursion HasBodyThatFits (plain (turns_of names n said))
+said-fits : (names : List (List ℕ)) (n : ℕ) (said : Said) → SaidFits said → AllByRecursion HasBodyThatFits (plain (lined_of names n said))
 said-fits names n Unknown f = tt
 said-fits names n Session f = tt
 said-fits names n (Load name lines closed) f = (f, tt)
@@ -90,20 +90,20 @@ said-fits names n (Query text closed) f = (tt, tt)
 said-fits names n (Tell name) f = (tt, tt)
 said-fits names n (Hear name) f = (tt, tt)
 
-plain-append : (xs ys : List Turn) → plain (xs ++ ys) ≡ plain xs ++ plain ys
+plain-append : (xs ys : List LinedCommand) → plain (xs ++ ys) ≡ plain xs ++ plain ys
 plain-append [] ys = refl
 plain-append (x ∷ xs) ys = ap (λ cs. x.command ∷ cs) (plain-append xs ys)
 
 commands_fit_case : (names : List (List ℕ)) (n : ℕ) (said : Said) (es : List Entry) (session : Bool) → is_session said ≡ session → SaidFits said
-    → AllByRecursion HasBodyThatFits (plain (front_turns names es)) × AllByRecursion (AllByRecursion HasBodyThatFits) (plains (sessions_in names es))
-    → AllByRecursion HasBodyThatFits (plain (cond (is_session said) [] (turns_of names n said ++ front_turns names es)))
-    × AllByRecursion (AllByRecursion HasBodyThatFits) (plains (cond (is_session said) (front_turns names es ∷ sessions_in names es) (sessions_in names es)))
+    → AllByRecursion HasBodyThatFits (plain (prefix_turns names es)) × AllByRecursion (AllByRecursion HasBodyThatFits) (plains (sessions_in names es))
+    → AllByRecursion HasBodyThatFits (plain (cond (is_session said) [] (lined_of names n said ++ prefix_turns names es)))
+    × AllByRecursion (AllByRecursion HasBodyThatFits) (plains (cond (is_session said) (prefix_turns names es ∷ sessions_in names es) (sessions_in names es)))
 commands_fit_case names n said es true e f more = rw e (tt, (more.0, more.1))
 commands_fit_case names n said es false e f more =
-    rw (e, plain-append (turns_of names n said) (front_turns names es))
-    (all-append HasBodyThatFits (plain (turns_of names n said)) (plain (front_turns names es)) (said-fits names n said f) more.0, more.1)
+    rw (e, plain-append (lined_of names n said) (prefix_turns names es))
+    (all-append HasBodyThatFits (plain (lined_of names n said)) (plain (prefix_turns names es)) (said-fits names n said f) more.0, more.1)
 
 pub bodies-fit : (names : List (List ℕ)) (es : List Entry) → AllByRecursion Fits es
-    → AllByRecursion HasBodyThatFits (plain (front_turns names es)) × AllByRecursion (AllByRecursion HasBodyThatFits) (plains (sessions_in names es))
+    → AllByRecursion HasBodyThatFits (plain (prefix_turns names es)) × AllByRecursion (AllByRecursion HasBodyThatFits) (plains (sessions_in names es))
 bodies-fit names [] f = (tt, tt)
 bodies-fit names (e ∷ es) f = commands_fit_case names e.line e.said es (is_session e.said) refl f.0 (bodies-fit names es f.1)

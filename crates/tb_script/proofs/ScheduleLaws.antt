@@ -12,18 +12,18 @@ use Rattle.tb_script.specs.Runnable.{AreThrough, AreRunnable, HasMarkBelow, load
 use Rattle.tb_script.specs.Schedule.{schedule_of, command_at, commands_of_steps, MayGo, GoOn, numbers_of}
 use Rattle.tb_script.specs.declared.command.Command.{Command}
 use Rattle.tb_script.specs.declared.command.Command.TheVariants.{Load, Query, Tell, Hear}
-use Rattle.tb_script.specs.declared.turn.Turn.{Turn}
+use Rattle.tb_script.specs.declared.lined_command.LinedCommand.{LinedCommand}
 use Rattle.tb_script.specs.declared.turnstep.Turnstep.{Turnstep}
 use Rattle.tb_script.proofs.RoundLaws.{told_by_rounds}
 use Rattle.tb_script.proofs.StepLaws.{IsNextStep, Takes, rounds-take, row-within}
 use Rattle.tb_script.proofs.WalkLaws.{apart}
 
 -- what is left of a session is its last commands, with their numbers
-record IsRest (cs : List Command) (s : List Turn) : Type 0 where
+record IsRest (cs : List Command) (s : List LinedCommand) : Type 0 where
   pub behind : ℕ
   pub is : s ≡ numbered behind (drop behind cs)
 
-abbrev AreRests : List (List Command) → List (List Turn) → Type 0
+abbrev AreRests : List (List Command) → List (List LinedCommand) → Type 0
 AreRests css ss = (at : ℕ) → IsRest (get_or css at []) (get_or ss at [])
 
 first-row : (css : List (List Command)) (at : ℕ) → get_or (map (numbered 0) css) at [] ≡ numbered 0 (get_or css at [])
@@ -42,26 +42,26 @@ drop-next zero (x ∷ xs) c rest e = (cc, cc)
 drop-next (suc n) (x ∷ xs) c rest e = drop-next n xs c rest e
 
 -- a session's next command, and what is left behind it
-record IsHead (cs : List Command) (t : Turn) (ts : List Turn) : Type 0 where
+record IsHead (cs : List Command) (t : LinedCommand) (ts : List LinedCommand) : Type 0 where
   pub command : slice_get cs t.line ≡ Some t.command
   pub rest : IsRest cs ts
 
-head : (cs : List Command) (t : Turn) (ts : List Turn) → IsRest cs (t ∷ ts) → IsHead cs t ts
+head : (cs : List Command) (t : LinedCommand) (ts : List LinedCommand) → IsRest cs (t ∷ ts) → IsHead cs t ts
 head cs t ts r = by (drop r.behind cs) refl r.is
   where
     by : (ds : List Command) → drop r.behind cs ≡ ds → t ∷ ts ≡ numbered r.behind ds → IsHead cs t ts
-    by [] e is = absurd (let d : ◌≡◌ {A = List Turn} (t ∷ ts) [] = is in cc)
+    by [] e is = absurd (let d : ◌≡◌ {A = List LinedCommand} (t ∷ ts) [] = is in cc)
     by (d ∷ ds) e is =
         let next = drop-next r.behind cs d ds e in
-        let first : Turn = record { line = r.behind; command = d } in
+        let first : LinedCommand = record { line = r.behind; command = d } in
         let same : t ≡ first = cc in
         let rest : ts ≡ numbered (r.behind + 1) ds = cc in
         record {
-          command = ap (λ (x : Turn). slice_get cs x.line) same ∙ next.0 ∙ ap (λ (x : Turn). Some x.command) (sym same);
+          command = ap (λ (x : LinedCommand). slice_get cs x.line) same ∙ next.0 ∙ ap (λ (x : LinedCommand). Some x.command) (sym same);
           rest = record { behind = r.behind + 1; is = rest ∙ ap (numbered (r.behind + 1)) (sym next.1 ∙ ap (λ n. drop n cs) (sym (add-one r.behind))) };
         }
 
-rests-step : (css : List (List Command)) (told : List ℕ) (ss : List (List Turn)) (step : Turnstep) (t : Turn) (ts : List Turn) → AreRests css ss → IsNextStep told ss step t ts
+rests-step : (css : List (List Command)) (told : List ℕ) (ss : List (List LinedCommand)) (step : Turnstep) (t : LinedCommand) (ts : List LinedCommand) → AreRests css ss → IsNextStep told ss step t ts
     → (command_at css step ≡ Some t.command) × AreRests css (set ss step.session ts)
 rests-step css told ss step t ts rests next =
     let here = head (get_or css step.session []) t ts (subst (IsRest (get_or css step.session [])) next.row (rests step.session)) in
@@ -102,7 +102,7 @@ commands-next css step steps c e = ap (λ o. option_to_list o ++ commands_of_ste
 pub schedule-taken : (css : List (List Command)) → Takes [] (map (numbered 0) css) (schedule_of css) (told_by_rounds (total (map (numbered 0) css)) [] (map (numbered 0) css)) (left_at_end (map (numbered 0) css))
 schedule-taken css = rounds-take (total (map (numbered 0) css)) [] (map (numbered 0) css)
 
-taken-within : (css : List (List Command)) (told : List ℕ) (ss : List (List Turn)) (steps : List Turnstep) (more : List ℕ) (us : List (List Turn)) → AreRests css ss → Takes told ss steps more us → AllByRecursion (λ step. IsSome (command_at css step)) steps
+taken-within : (css : List (List Command)) (told : List ℕ) (ss : List (List LinedCommand)) (steps : List Turnstep) (more : List ℕ) (us : List (List LinedCommand)) → AreRests css ss → Takes told ss steps more us → AllByRecursion (λ step. IsSome (command_at css step)) steps
 taken-within css told ss [] more us rests p = tt
 taken-within css told ss (step ∷ steps) more us rests p =
     let next = rests-step css told ss step p.0 p.1 rests p.2 in
@@ -132,20 +132,20 @@ module _ (f : Command → ℕ) where
   sum_over [] = 0
   sum_over (c ∷ cs) = f c + sum_over cs
 
-  abbrev pub turns_sum : List Turn → ℕ
+  abbrev pub turns_sum : List LinedCommand → ℕ
   turns_sum [] = 0
   turns_sum (t ∷ ts) = f t.command + turns_sum ts
 
-  abbrev pub rows_sum : List (List Turn) → ℕ
+  abbrev pub rows_sum : List (List LinedCommand) → ℕ
   rows_sum [] = 0
   rows_sum (s ∷ ss) = turns_sum s + rows_sum ss
 
-  sum-step : (ss : List (List Turn)) (at : ℕ) (t : Turn) (ts : List Turn) → get_or ss at [] ≡ t ∷ ts → rows_sum ss ≡ f t.command + rows_sum (set ss at ts)
+  sum-step : (ss : List (List LinedCommand)) (at : ℕ) (t : LinedCommand) (ts : List LinedCommand) → get_or ss at [] ≡ t ∷ ts → rows_sum ss ≡ f t.command + rows_sum (set ss at ts)
   sum-step [] at t ts row = absurd (omega (arith, row-within [] at t ts row))
   sum-step (s ∷ ss) zero t ts row = let sum : turns_sum s ≡ f t.command + turns_sum ts = ap turns_sum row in omega (arith, sum)
   sum-step (s ∷ ss) (suc at) t ts row = omega (arith, sum-step ss at t ts row)
 
-  taken-sum : (css : List (List Command)) (told : List ℕ) (ss : List (List Turn)) (steps : List Turnstep) (more : List ℕ) (us : List (List Turn)) → AreRests css ss → Takes told ss steps more us
+  taken-sum : (css : List (List Command)) (told : List ℕ) (ss : List (List LinedCommand)) (steps : List Turnstep) (more : List ℕ) (us : List (List LinedCommand)) → AreRests css ss → Takes told ss steps more us
       → rows_sum ss ≡ sum_over (commands_of_steps css steps) + rows_sum us
   taken-sum css told ss [] more us rests p = omega (arith, ap rows_sum p.1)
   taken-sum css told ss (step ∷ steps) more us rests p =
@@ -167,10 +167,10 @@ module _ (f : Command → ℕ) where
   plain_sums [] = refl
   plain_sums (cs ∷ css) = ap₂ (λ m n. m + n) (plain_sum 0 cs) (plain_sums css)
 
-  none-sum : (us : List (List Turn)) → AreThrough (map (map (λ t. t.command)) us) → rows_sum us ≡ 0
+  none-sum : (us : List (List LinedCommand)) → AreThrough (map (map (λ t. t.command)) us) → rows_sum us ≡ 0
   none-sum [] e = refl
   none-sum ([] ∷ us) e = omega (arith, none-sum us e.1)
-  none-sum ((t ∷ ts) ∷ us) e = absurd (let d : ◌≡◌ {A = List Command} (t.command ∷ map (λ (u : Turn). u.command) ts) [] = e.0 in cc)
+  none-sum ((t ∷ ts) ∷ us) e = absurd (let d : ◌≡◌ {A = List Command} (t.command ∷ map (λ (u : LinedCommand). u.command) ts) [] = e.0 in cc)
 
   -- Where the rounds leave nothing, the commands of their steps sum to what all commands do.
   pub schedule-sum : (css : List (List Command)) (marks : ℕ) → AreRunnable css marks → sum_over (commands_of_steps css (schedule_of css)) ≡ sum_in css
@@ -252,7 +252,7 @@ times-none m (n ∷ told) e = by (n == m) e (times-none m told)
     by false e ih = ih (omega (arith, e))
 
 -- a mark is told at most once, so far and by what is left
-abbrev AreToldOnce : List ℕ → List (List Turn) → Type 0
+abbrev AreToldOnce : List ℕ → List (List LinedCommand) → Type 0
 AreToldOnce told ss = (m : ℕ) → times m told + rows_sum (tells m) ss ≤ 1
 
 times-done : (m : ℕ) (told : List ℕ) (c : Command) → times m (once_done told c) ≡ times m told + tells m c
@@ -267,7 +267,7 @@ may-go told (Hear n name) can few = can
 may-go told (Load name lines) can few = tt
 may-go told (Query text) can few = tt
 
-taken-on : (css : List (List Command)) (told : List ℕ) (ss : List (List Turn)) (steps : List Turnstep) (more : List ℕ) (us : List (List Turn)) → AreRests css ss → AreToldOnce told ss → Takes told ss steps more us
+taken-on : (css : List (List Command)) (told : List ℕ) (ss : List (List LinedCommand)) (steps : List Turnstep) (more : List ℕ) (us : List (List LinedCommand)) → AreRests css ss → AreToldOnce told ss → Takes told ss steps more us
     → GoOn told (commands_of_steps css steps)
 taken-on css told ss [] more us rests few p = tt
 taken-on css told ss (step ∷ steps) more us rests few p =
@@ -324,10 +324,10 @@ schedule-goes_on css marks r = taken-on css [] (map (numbered 0) css) (schedule_
     few m = omega (arith, plain_sums (tells m) css, tells-times_in m css, ap (times m) r.told, range-once m 0 marks)
 
 -- the numbers of what is left of a session
-abbrev lines_of : List Turn → List ℕ
+abbrev lines_of : List LinedCommand → List ℕ
 lines_of s = map (λ t. t.line) s
 
-taken-numbers : (session : ℕ) (told : List ℕ) (ss : List (List Turn)) (steps : List Turnstep) (more : List ℕ) (us : List (List Turn)) → Takes told ss steps more us
+taken-numbers : (session : ℕ) (told : List ℕ) (ss : List (List LinedCommand)) (steps : List Turnstep) (more : List ℕ) (us : List (List LinedCommand)) → Takes told ss steps more us
     → lines_of (get_or ss session []) ≡ numbers_of session steps ++ lines_of (get_or us session [])
 taken-numbers session told ss [] more us p = ap (λ rs. lines_of (get_or rs session [])) (sym p.1)
 taken-numbers session told ss (step ∷ steps) more us p =
@@ -346,10 +346,10 @@ numbered-lines : (n : ℕ) (cs : List Command) → lines_of (numbered n cs) ≡ 
 numbered-lines n [] = refl
 numbered-lines n (c ∷ cs) = ap (λ ns. n ∷ ns) (numbered-lines (n + 1) cs)
 
-through-row : (us : List (List Turn)) (session : ℕ) → AreThrough (map (map (λ t. t.command)) us) → lines_of (get_or us session []) ≡ []
+through-row : (us : List (List LinedCommand)) (session : ℕ) → AreThrough (map (map (λ t. t.command)) us) → lines_of (get_or us session []) ≡ []
 through-row [] session e = ap lines_of (get_or_past [] session [] (omega arith))
 through-row ([] ∷ us) zero e = refl
-through-row ((t ∷ ts) ∷ us) zero e = absurd (let d : ◌≡◌ {A = List Command} (t.command ∷ map (λ (u : Turn). u.command) ts) [] = e.0 in cc)
+through-row ((t ∷ ts) ∷ us) zero e = absurd (let d : ◌≡◌ {A = List Command} (t.command ∷ map (λ (u : LinedCommand). u.command) ts) [] = e.0 in cc)
 through-row (u ∷ us) (suc session) e = through-row us session e.1
 
 -- Each session's commands stand in their order, each once.

@@ -6,10 +6,10 @@ use Rattle.std.specs.Str.{bytes_eq}
 use Rattle.std.proofs.lemmas.Bool.{false≢true, leb-false, eqb-false}
 use Rattle.tb_script.specs.Forms.{is_label}
 use Rattle.tb_script.specs.Faults.{Counts, at_start, place_of, fault_of, and_then, first_fault, or_else}
-use Rattle.tb_script.specs.Sessions.{told_by, marks_of, number_of, turns_of, is_session, front_turns, sessions_in, unknown_at, unknown_mark}
+use Rattle.tb_script.specs.Sessions.{told_by, marks_of, number_of, lined_of, is_session, prefix_turns, sessions_in, unknown_at, unknown_mark}
 use Rattle.tb_script.specs.Runnable.{IsNamed, HasMarkBelow, loads_of, loads_in, tells_of, tells_in, AreRunnable}
 use Rattle.tb_script.specs.declared.command.Command.{Command}
-use Rattle.tb_script.specs.declared.turn.Turn.{Turn}
+use Rattle.tb_script.specs.declared.lined_command.LinedCommand.{LinedCommand}
 use Rattle.tb_script.specs.declared.entry.Said.{Said}
 use Rattle.tb_script.specs.declared.entry.Said.TheVariants.{Unknown, Session, Load, Query, Tell, Hear}
 use Rattle.tb_script.specs.declared.entry.Entry.{Entry}
@@ -80,7 +80,7 @@ sessions-fit names t [] p few = omega (arith, few)
 sessions-fit names t (e ∷ es) p few = by e.said p.0 p.1 (λ u q f. sessions-fit names u es q f)
   where
     by : (said : Said) → Passes t said → AllPass (and_then t said) es → ((u : Counts) → AllPass u es → u.sessions ≤ 64 → u.sessions + length (sessions_in names es) ≤ 64)
-        → t.sessions + length (cond (is_session said) (front_turns names es ∷ sessions_in names es) (sessions_in names es)) ≤ 64
+        → t.sessions + length (cond (is_session said) (prefix_turns names es ∷ sessions_in names es) (sessions_in names es)) ≤ 64
     by Unknown q p ih = absurd q
     by Session q p ih = omega (arith, ih (and_then t Session) p (omega (arith, q)))
     by (Load name lines closed) q p ih = ih (and_then t (Load name lines closed)) p few
@@ -90,14 +90,14 @@ sessions-fit names t (e ∷ es) p few = by e.said p.0 p.1 (λ u q f. sessions-fi
 
 -- the commands up to the next session, and those of each session behind it
 commands-fit : (names : List (List ℕ)) (t : Counts) (es : List Entry) → AllPass t es → t.commands ≤ 10000
-    → (t.commands + length (plain (front_turns names es)) ≤ 10000) × AllByRecursion (λ cs. length cs ≤ 10000) (plains (sessions_in names es))
+    → (t.commands + length (plain (prefix_turns names es)) ≤ 10000) × AllByRecursion (λ cs. length cs ≤ 10000) (plains (sessions_in names es))
 commands-fit names t [] p few = (omega (arith, few), tt)
 commands-fit names t (e ∷ es) p few = by e.line e.said p.0 p.1 (λ u q f. commands-fit names u es q f)
   where
     by : (n : ℕ) (said : Said) → Passes t said → AllPass (and_then t said) es
-        → ((u : Counts) → AllPass u es → u.commands ≤ 10000 → (u.commands + length (plain (front_turns names es)) ≤ 10000) × AllByRecursion (λ cs. length cs ≤ 10000) (plains (sessions_in names es)))
-        → (t.commands + length (plain (cond (is_session said) [] (turns_of names n said ++ front_turns names es))) ≤ 10000)
-        × AllByRecursion (λ cs. length cs ≤ 10000) (plains (cond (is_session said) (front_turns names es ∷ sessions_in names es) (sessions_in names es)))
+        → ((u : Counts) → AllPass u es → u.commands ≤ 10000 → (u.commands + length (plain (prefix_turns names es)) ≤ 10000) × AllByRecursion (λ cs. length cs ≤ 10000) (plains (sessions_in names es)))
+        → (t.commands + length (plain (cond (is_session said) [] (lined_of names n said ++ prefix_turns names es))) ≤ 10000)
+        × AllByRecursion (λ cs. length cs ≤ 10000) (plains (cond (is_session said) (prefix_turns names es ∷ sessions_in names es) (sessions_in names es)))
     by n Unknown q p ih = absurd q
     by n Session q p ih =
         let r = ih (and_then t Session) p (omega arith) in
@@ -116,14 +116,14 @@ commands-fit names t (e ∷ es) p few = by e.line e.said p.0 p.1 (λ u q f. comm
         (omega (arith, r.0), r.1)
 
 loads-fit : (names : List (List ℕ)) (t : Counts) (es : List Entry) → AllPass t es → t.loads ≤ 65536
-    → t.loads + (loads_of (plain (front_turns names es)) + loads_in (plains (sessions_in names es))) ≤ 65536
+    → t.loads + (loads_of (plain (prefix_turns names es)) + loads_in (plains (sessions_in names es))) ≤ 65536
 loads-fit names t [] p few = omega (arith, few)
 loads-fit names t (e ∷ es) p few = by e.line e.said p.0 p.1 (λ u q f. loads-fit names u es q f)
   where
     by : (n : ℕ) (said : Said) → Passes t said → AllPass (and_then t said) es
-        → ((u : Counts) → AllPass u es → u.loads ≤ 65536 → u.loads + (loads_of (plain (front_turns names es)) + loads_in (plains (sessions_in names es))) ≤ 65536)
-        → t.loads + (loads_of (plain (cond (is_session said) [] (turns_of names n said ++ front_turns names es)))
-        + loads_in (plains (cond (is_session said) (front_turns names es ∷ sessions_in names es) (sessions_in names es)))) ≤ 65536
+        → ((u : Counts) → AllPass u es → u.loads ≤ 65536 → u.loads + (loads_of (plain (prefix_turns names es)) + loads_in (plains (sessions_in names es))) ≤ 65536)
+        → t.loads + (loads_of (plain (cond (is_session said) [] (lined_of names n said ++ prefix_turns names es)))
+        + loads_in (plains (cond (is_session said) (prefix_turns names es ∷ sessions_in names es) (sessions_in names es)))) ≤ 65536
     by n Unknown q p ih = absurd q
     by n Session q p ih = omega (arith, ih (and_then t Session) p few)
     by n (Load name lines closed) q p ih = omega (arith, ih (and_then t (Load name lines closed)) p (omega (arith, q.3)))
@@ -132,13 +132,13 @@ loads-fit names t (e ∷ es) p few = by e.line e.said p.0 p.1 (λ u q f. loads-f
     by n (Hear name) q p ih = ih (and_then t (Hear name)) p few
 
 named : (names : List (List ℕ)) (t : Counts) (es : List Entry) → AllPass t es
-    → AllByRecursion IsNamed (plain (front_turns names es)) × AllByRecursion (AllByRecursion IsNamed) (plains (sessions_in names es))
+    → AllByRecursion IsNamed (plain (prefix_turns names es)) × AllByRecursion (AllByRecursion IsNamed) (plains (sessions_in names es))
 named names t [] p = (tt, tt)
 named names t (e ∷ es) p = by e.line e.said p.0 (named names (and_then t e.said) es p.1)
   where
-    by : (n : ℕ) (said : Said) → Passes t said → AllByRecursion IsNamed (plain (front_turns names es)) × AllByRecursion (AllByRecursion IsNamed) (plains (sessions_in names es))
-        → AllByRecursion IsNamed (plain (cond (is_session said) [] (turns_of names n said ++ front_turns names es)))
-        × AllByRecursion (AllByRecursion IsNamed) (plains (cond (is_session said) (front_turns names es ∷ sessions_in names es) (sessions_in names es)))
+    by : (n : ℕ) (said : Said) → Passes t said → AllByRecursion IsNamed (plain (prefix_turns names es)) × AllByRecursion (AllByRecursion IsNamed) (plains (sessions_in names es))
+        → AllByRecursion IsNamed (plain (cond (is_session said) [] (lined_of names n said ++ prefix_turns names es)))
+        × AllByRecursion (AllByRecursion IsNamed) (plains (cond (is_session said) (prefix_turns names es ∷ sessions_in names es) (sessions_in names es)))
     by n Unknown q ih = absurd q
     by n Session q ih = (tt, ih)
     by n (Load name lines closed) q ih = ((q.1, ih.0), ih.1)
@@ -175,14 +175,14 @@ tell-number names t name es is new = ap (λ o. option_map_or (λ n. n) o 0) (ap 
 
 -- the marks are told in the order of their numbers
 tells-range : (names : List (List ℕ)) (t : Counts) (es : List Entry) → AllPass t es → AreNames names t es
-    → tells_of (plain (front_turns names es)) ++ tells_in (plains (sessions_in names es)) ≡ range_with_len (length t.told) (length (marks_of es))
+    → tells_of (plain (prefix_turns names es)) ++ tells_in (plains (sessions_in names es)) ≡ range_with_len (length t.told) (length (marks_of es))
 tells-range names t [] p is = refl
 tells-range names t (e ∷ es) p is = by e.line e.said p.0 p.1 is (λ u q f. tells-range names u es q f)
   where
     by : (n : ℕ) (said : Said) → Passes t said → AllPass (and_then t said) es → names ≡ t.told ++ (told_by said ++ marks_of es)
-        → ((u : Counts) → AllPass u es → AreNames names u es → tells_of (plain (front_turns names es)) ++ tells_in (plains (sessions_in names es)) ≡ range_with_len (length u.told) (length (marks_of es)))
-        → tells_of (plain (cond (is_session said) [] (turns_of names n said ++ front_turns names es)))
-        ++ tells_in (plains (cond (is_session said) (front_turns names es ∷ sessions_in names es) (sessions_in names es)))
+        → ((u : Counts) → AllPass u es → AreNames names u es → tells_of (plain (prefix_turns names es)) ++ tells_in (plains (sessions_in names es)) ≡ range_with_len (length u.told) (length (marks_of es)))
+        → tells_of (plain (cond (is_session said) [] (lined_of names n said ++ prefix_turns names es)))
+        ++ tells_in (plains (cond (is_session said) (prefix_turns names es ∷ sessions_in names es) (sessions_in names es)))
         ≡ range_with_len (length t.told) (length (told_by said ++ marks_of es))
     by n Unknown q p is ih = absurd q
     by n Session q p is ih = ih (and_then t Session) p is
@@ -203,18 +203,18 @@ hear-below names n name e = by (place_of name names) refl e
 
 -- marks have numbers below their count
 marks-below : (names : List (List ℕ)) (t : Counts) (es : List Entry) → AllPass t es → AreNames names t es → unknown_mark names es ≡ None
-    → AllByRecursion (λ (u : Turn). HasMarkBelow (length names) u.command) (front_turns names es)
-    × AllByRecursion (AllByRecursion (λ (u : Turn). HasMarkBelow (length names) u.command)) (sessions_in names es)
+    → AllByRecursion (λ (u : LinedCommand). HasMarkBelow (length names) u.command) (prefix_turns names es)
+    × AllByRecursion (AllByRecursion (λ (u : LinedCommand). HasMarkBelow (length names) u.command)) (sessions_in names es)
 marks-below names t [] p is known = (tt, tt)
 marks-below names t (e ∷ es) p is known =
     let parts = neither (unknown_at names e.line e.said) (unknown_mark names es) known in
     by e.line e.said p.0 p.1 is parts.0 (λ u q f. marks-below names u es q f parts.1)
   where
     by : (n : ℕ) (said : Said) → Passes t said → AllPass (and_then t said) es → names ≡ t.told ++ (told_by said ++ marks_of es) → unknown_at names n said ≡ None
-        → ((u : Counts) → AllPass u es → AreNames names u es → AllByRecursion (λ (u : Turn). HasMarkBelow (length names) u.command) (front_turns names es)
-        × AllByRecursion (AllByRecursion (λ (u : Turn). HasMarkBelow (length names) u.command)) (sessions_in names es))
-        → AllByRecursion (λ (u : Turn). HasMarkBelow (length names) u.command) (cond (is_session said) [] (turns_of names n said ++ front_turns names es))
-        × AllByRecursion (AllByRecursion (λ (u : Turn). HasMarkBelow (length names) u.command)) (cond (is_session said) (front_turns names es ∷ sessions_in names es) (sessions_in names es))
+        → ((u : Counts) → AllPass u es → AreNames names u es → AllByRecursion (λ (u : LinedCommand). HasMarkBelow (length names) u.command) (prefix_turns names es)
+        × AllByRecursion (AllByRecursion (λ (u : LinedCommand). HasMarkBelow (length names) u.command)) (sessions_in names es))
+        → AllByRecursion (λ (u : LinedCommand). HasMarkBelow (length names) u.command) (cond (is_session said) [] (lined_of names n said ++ prefix_turns names es))
+        × AllByRecursion (AllByRecursion (λ (u : LinedCommand). HasMarkBelow (length names) u.command)) (cond (is_session said) (prefix_turns names es ∷ sessions_in names es) (sessions_in names es))
     by n Unknown q p is known ih = absurd q
     by n Session q p is known ih = (tt, ih (and_then t Session) p is)
     by n (Load name lines closed) q p is known ih = let r = ih (and_then t (Load name lines closed)) p is in ((tt, r.0), r.1)
@@ -226,20 +226,20 @@ marks-below names t (e ∷ es) p is known =
         ((below, r.0), r.1)
     by n (Hear name) q p is known ih = let r = ih (and_then t (Hear name)) p is in ((hear-below names n name known, r.0), r.1)
 
-all-plain : (P : Command → Type 0) (ts : List Turn) → AllByRecursion (λ (u : Turn). P u.command) ts → AllByRecursion P (plain ts)
+all-plain : (P : Command → Type 0) (ts : List LinedCommand) → AllByRecursion (λ (u : LinedCommand). P u.command) ts → AllByRecursion P (plain ts)
 all-plain P [] all = tt
 all-plain P (t ∷ ts) all = (all.0, all-plain P ts all.1)
 
-all-plains : (P : Command → Type 0) (ss : List (List Turn)) → AllByRecursion (AllByRecursion (λ (u : Turn). P u.command)) ss → AllByRecursion (AllByRecursion P) (plains ss)
+all-plains : (P : Command → Type 0) (ss : List (List LinedCommand)) → AllByRecursion (AllByRecursion (λ (u : LinedCommand). P u.command)) ss → AllByRecursion (AllByRecursion P) (plains ss)
 all-plains P [] all = tt
 all-plains P (s ∷ ss) all = (all-plain P s all.0, all-plains P ss all.1)
 
 -- no command stands before the first session
-front-none : (names : List (List ℕ)) (t : Counts) (es : List Entry) → AllPass t es → t.sessions ≡ 0 → front_turns names es ≡ []
-front-none names t [] p none = refl
-front-none names t (e ∷ es) p none = by e.line e.said p.0
+prefix-none : (names : List (List ℕ)) (t : Counts) (es : List Entry) → AllPass t es → t.sessions ≡ 0 → prefix_turns names es ≡ []
+prefix-none names t [] p none = refl
+prefix-none names t (e ∷ es) p none = by e.line e.said p.0
   where
-    by : (n : ℕ) (said : Said) → Passes t said → cond (is_session said) [] (turns_of names n said ++ front_turns names es) ≡ []
+    by : (n : ℕ) (said : Said) → Passes t said → cond (is_session said) [] (lined_of names n said ++ prefix_turns names es) ≡ []
     by n Unknown q = absurd q
     by n Session q = refl
     by n (Load name lines closed) q = absurd (q.0 none)
@@ -256,9 +256,9 @@ pub are_runnable : (es : List Entry) → AllByRecursion Fits es → first_fault 
 are_runnable es short sound known free =
     let names = marks_of es in
     let p = all_pass at_start es sound in
-    let none : tells_of (plain (front_turns names es)) ≡ [] = ap (λ ts. tells_of (plain ts)) (front-none names at_start es p refl) in
+    let none : tells_of (plain (prefix_turns names es)) ≡ [] = ap (λ ts. tells_of (plain ts)) (prefix-none names at_start es p refl) in
     record {
-      sessions_fit = omega (arith, sessions-fit names at_start es p (omega arith), length-map (sessions_of es) (map (λ (t : Turn). t.command)));
+      sessions_fit = omega (arith, sessions-fit names at_start es p (omega arith), length-map (sessions_of es) (map (λ (t : LinedCommand). t.command)));
       commands_fit = (commands-fit names at_start es p (omega arith)).1;
       loads_fit = omega (arith, loads-fit names at_start es p (omega arith));
       bodies_fit = (bodies-fit names es short).1;

@@ -10,7 +10,7 @@ use Rattle.tb_script.specs.Visits.{Chooses}
 use Rattle.tb_script.specs.declared.command.Command.{Command}
 use Rattle.tb_script.specs.declared.command.Command.TheVariants.{Load, Query, Tell, Hear}
 use Rattle.tb_script.specs.declared.session_set.SessionSet.{SessionSet}
-use Rattle.tb_script.specs.declared.turn.Turn.{Turn}
+use Rattle.tb_script.specs.declared.lined_command.LinedCommand.{LinedCommand}
 use Rattle.tb_script.specs.declared.turnstep.Turnstep.{Turnstep}
 use Rattle.tb_script.proofs.SetLaws.{size-less, size-none}
 use Rattle.tb_script.proofs.StepLaws.{row-within}
@@ -18,7 +18,7 @@ use Rattle.tb_script.proofs.WalkLaws.{apart, total-at, still-from}
 use Rattle.tb_script.proofs.ComeLaws.{CantGo, come-enough, come-skip, come-next, come-round, come-none}
 
 -- a session that waits can't go on
-waits-cant : (told : List ℕ) (bits : List Bool) (waiters : List SessionSet) (n : ℕ) (s : List Turn) → ((m : ℕ) → is_among m told ≡ get_or bits m false) → Waits bits waiters n s → CantGo told s
+waits-cant : (told : List ℕ) (bits : List Bool) (waiters : List SessionSet) (n : ℕ) (s : List LinedCommand) → ((m : ℕ) → is_among m told ≡ get_or bits m false) → Waits bits waiters n s → CantGo told s
 waits-cant told bits waiters n [] agrees w = tt
 waits-cant told bits waiters n (t ∷ ts) agrees w = by t.command w
   where
@@ -29,7 +29,7 @@ waits-cant told bits waiters n (t ∷ ts) agrees w = by t.command w
     by (Query text) w = absurd w
 
 -- some sessions in a row that can't go on are passed
-come-skips : (d k from : ℕ) (told : List ℕ) (ss : List (List Turn)) → ((n : ℕ) → from ≤ n → n < from + d → CantGo told (get_or ss n [])) → to_come k from told ss ≡ to_come k (from + d) told ss
+come-skips : (d k from : ℕ) (told : List ℕ) (ss : List (List LinedCommand)) → ((n : ℕ) → from ≤ n → n < from + d → CantGo told (get_or ss n [])) → to_come k from told ss ≡ to_come k (from + d) told ss
 come-skips zero k from told ss cant = let e : from ≡ from + zero = omega arith in ap (λ n. to_come k n told ss) e
 come-skips (suc d) k from told ss cant =
     let e : suc from + d ≡ from + suc d = omega arith in
@@ -127,12 +127,12 @@ all-done css st empty f =
     ∙ ap (λ xs. st.steps ++ xs) (sym (come-none (total st.left) f.told st.left (still-from f.told st.left (λ at t ts row. by at t ts row (f.here at (omega arith))))))
     ∙ f.steps (total st.left) (omega arith)
   where
-    by : (at : ℕ) (t : Turn) (ts : List Turn) → get_or st.left at [] ≡ t ∷ ts → (holds st.awake at ≡ true) ⊎ WaitsIn st at → can_go f.told t.command ≡ false
+    by : (at : ℕ) (t : LinedCommand) (ts : List LinedCommand) → get_or st.left at [] ≡ t ∷ ts → (holds st.awake at ≡ true) ⊎ WaitsIn st at → can_go f.told t.command ≡ false
     by at t ts row (inl e) = absurd (false≢true (sym (empty at) ∙ e))
     by at t ts row (inr w) = subst (CantGo f.told) row (waits-cant f.told st.told st.waiters at (row_at st at) f.agrees w)
 
 -- a session's command is done
-abbrev pub with_done : Stand → ℕ → Turn → List Turn → List Bool → SessionSet → SessionSet → Stand
+abbrev pub with_done : Stand → ℕ → LinedCommand → List LinedCommand → List Bool → SessionSet → SessionSet → Stand
 with_done st at t ts told awake later =
     record {
       left = set st.left at ts;
@@ -151,9 +151,9 @@ pub record GoesOn (at : ℕ) (st : Stand) (c : Command) (bits : List Bool) (awak
   pub still : (n : ℕ) → holds st.awake n ≡ true → holds awake n ≡ true
   pub more : (n : ℕ) → holds st.later n ≡ true → holds later n ≡ true
   pub own : holds later at ≡ true
-  pub wakes : (n : ℕ) (s : List Turn) → Waits st.told st.waiters n s → Waits bits st.waiters n s ⊎ ((at < n → holds awake n ≡ true) × (holds later n ≡ true))
+  pub wakes : (n : ℕ) (s : List LinedCommand) → Waits st.told st.waiters n s → Waits bits st.waiters n s ⊎ ((at < n → holds awake n ≡ true) × (holds later n ≡ true))
 
-pub done-follows : (css : List (List Command)) (at : ℕ) (st : Stand) (t : Turn) (ts : List Turn) (bits : List Bool) (awake later : SessionSet) → row_at st at ≡ t ∷ ts → GoesOn at st t.command bits awake later
+pub done-follows : (css : List (List Command)) (at : ℕ) (st : Stand) (t : LinedCommand) (ts : List LinedCommand) (bits : List Bool) (awake later : SessionSet) → row_at st at ≡ t ∷ ts → GoesOn at st t.command bits awake later
     → Follows css at (at + 1) st → Follows css (at + 1) (at + 1) (with_done st at t ts bits awake later)
 done-follows css at st t ts bits awake later row g f = record {
   told = once_done f.told t.command;
@@ -170,7 +170,7 @@ done-follows css at st t ts bits awake later row g f = record {
     more : List ℕ
     more = once_done f.told t.command
 
-    rest : List (List Turn)
+    rest : List (List LinedCommand)
     rest = set st.left at ts
 
     steps : (k : ℕ) → total rest ≤ k → (st.steps ++ step ∷ []) ++ to_come k (at + 1) more rest ≡ schedule_of css
@@ -249,7 +249,7 @@ waiters-follow css from late st waiters more f = record {
   behind = λ n below. kept n (holds st.later n) (f.behind n below);
 }
   where
-    wait : (n : ℕ) (s : List Turn) → Waits st.told st.waiters n s → Waits st.told waiters n s
+    wait : (n : ℕ) (s : List LinedCommand) → Waits st.told st.waiters n s → Waits st.told waiters n s
     wait n [] w = tt
     wait n (t ∷ ts) w = by t.command w
       where

@@ -4,8 +4,8 @@ use Rattle.std.proofs.lemmas.Bool.{ltb-true, ltb-false}
 use Rattle.std.proofs.lemmas.List.{get_or_past, length-replicate}
 use Rattle.tb_script.specs.Rounds.{is_among, lesser, least_line, stuck_line}
 use Rattle.tb_script.specs.Runs.{Runs, stop}
-use Rattle.tb_script.specs.Walks.{State, row_of, HaveMarksBelow, Walks, Waits, Starts, Ends}
-use Rattle.tb_script.specs.declared.turn.Turn.{Turn}
+use Rattle.tb_script.specs.Walks.{WalkState, row_of, HaveMarksBelow, Walks, Waits, Starts, Ends}
+use Rattle.tb_script.specs.declared.lined_command.LinedCommand.{LinedCommand}
 use Rattle.tb_script.proofs.WalkLaws.{end-left}
 
 -- the lesser of two lines, where there are lines
@@ -18,14 +18,14 @@ get_or-same zero m d = get_or_past [] m d (omega arith)
 get_or-same (suc n) zero d = refl
 get_or-same (suc n) (suc m) d = get_or-same n m d
 
-start-walks : (ss : List (List Turn)) (st : State) (marks : ℕ) → st.left ≡ ss → st.told ≡ replicate marks false → Walks ss st
+start-walks : (ss : List (List LinedCommand)) (st : WalkState) (marks : ℕ) → st.left ≡ ss → st.told ≡ replicate marks false → Walks ss st
 start-walks ss st marks left told = record {
   told = [];
   run = subst (λ rs. Runs [] ss [] rs) (sym left) stop;
   agrees = λ m. sym (ap (λ bits. get_or bits m false) told ∙ get_or-same marks m false);
 }
 
-pub starts : (ss : List (List Turn)) (st : State) (marks : ℕ) → HaveMarksBelow marks ss → st.left ≡ ss → st.told ≡ replicate marks false → st.waiters ≡ replicate marks []
+pub starts : (ss : List (List LinedCommand)) (st : WalkState) (marks : ℕ) → HaveMarksBelow marks ss → st.left ≡ ss → st.told ≡ replicate marks false → st.waiters ≡ replicate marks []
     → ((at : ℕ) → at < length ss → is_among at st.ready ≡ true) → Starts ss st
 starts ss st marks below left told waiters ready =
     let long : length st.told ≡ marks = ap length told ∙ length-replicate marks false in
@@ -44,5 +44,5 @@ starts ss st marks below left told waiters ready =
         inr (subst (Waits st at) (sym row) tt)
 
 -- the least line at the end of a walk
-pub stuck-is : (ss : List (List Turn)) (first last : State) → Starts ss first → Ends first last → least_line last.left ≡ stuck_line ss
+pub stuck-is : (ss : List (List LinedCommand)) (first last : WalkState) → Starts ss first → Ends first last → least_line last.left ≡ stuck_line ss
 stuck-is ss first last s e = ap least_line (end-left ss last (e.walks ss s.walks) e.idles e.covers e.none)

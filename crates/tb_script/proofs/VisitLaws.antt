@@ -10,7 +10,7 @@ use Rattle.tb_script.specs.Visits.{Goes, Tells, Stays, Visits}
 use Rattle.tb_script.specs.declared.command.Command.{Command}
 use Rattle.tb_script.specs.declared.command.Command.TheVariants.{Load, Query, Tell, Hear}
 use Rattle.tb_script.specs.declared.session_set.SessionSet.{SessionSet}
-use Rattle.tb_script.specs.declared.turn.Turn.{Turn}
+use Rattle.tb_script.specs.declared.lined_command.LinedCommand.{LinedCommand}
 use Rattle.tb_script.proofs.SetLaws.{size-few}
 use Rattle.tb_script.proofs.StepLaws.{row-within}
 use Rattle.tb_script.proofs.WalkLaws.{all-set, all-at, apart, told-agrees, total-at}
@@ -75,7 +75,7 @@ tell-on at mark name st awake later within w = record {
         by true f = e
         by false f = absurd (omega (arith, over, ltb-false at n f))
 
-    wakes : (n : ℕ) (s : List Turn) → Waits st.told st.waiters n s → Waits (set st.told mark true) st.waiters n s ⊎ ((at < n → holds awake n ≡ true) × (holds later n ≡ true))
+    wakes : (n : ℕ) (s : List LinedCommand) → Waits st.told st.waiters n s → Waits (set st.told mark true) st.waiters n s ⊎ ((at < n → holds awake n ≡ true) × (holds later n ≡ true))
     wakes n [] v = inl tt
     wakes n (t ∷ ts) v = by t.command v
       where
@@ -93,22 +93,22 @@ tell-on at mark name st awake later within w = record {
         by (Query text) v = absurd v
 
 -- the next command of a session and those behind it fit
-pub row-fits : (st : Stand) (at : ℕ) (t : Turn) (ts : List Turn) → Fits st → row_at st at ≡ t ∷ ts → FitsAt (length st.told) t × AllByRecursion (FitsAt (length st.told)) ts
+pub row-fits : (st : Stand) (at : ℕ) (t : LinedCommand) (ts : List LinedCommand) → Fits st → row_at st at ≡ t ∷ ts → FitsAt (length st.told) t × AllByRecursion (FitsAt (length st.told)) ts
 row-fits st at t ts fits row =
     subst (AllByRecursion (FitsAt (length st.told))) row (all-at (AllByRecursion (FitsAt (length st.told))) st.left at [] fits.rows tt)
 
-done-fits : (st : Stand) (at : ℕ) (t : Turn) (ts : List Turn) (bits : List Bool) (awake later : SessionSet) → length bits ≡ length st.told → Fits st → row_at st at ≡ t ∷ ts → Fits (with_done st at t ts bits awake later)
+done-fits : (st : Stand) (at : ℕ) (t : LinedCommand) (ts : List LinedCommand) (bits : List Bool) (awake later : SessionSet) → length bits ≡ length st.told → Fits st → row_at st at ≡ t ∷ ts → Fits (with_done st at t ts bits awake later)
 done-fits st at t ts bits awake later long fits row = record {
   same = fits.same ∙ sym long;
   rows = subst (λ n. AllByRecursion (AllByRecursion (FitsAt n)) (set st.left at ts)) (sym long)
       (all-set (AllByRecursion (FitsAt (length st.told))) st.left at ts fits.rows (row-fits st at t ts fits row).1);
 }
 
-done-lighter : (st : Stand) (at : ℕ) (t : Turn) (ts : List Turn) (bits : List Bool) (awake later : SessionSet) → row_at st at ≡ t ∷ ts → weight (with_done st at t ts bits awake later) ≤ weight st
+done-lighter : (st : Stand) (at : ℕ) (t : LinedCommand) (ts : List LinedCommand) (bits : List Bool) (awake later : SessionSet) → row_at st at ≡ t ∷ ts → weight (with_done st at t ts bits awake later) ≤ weight st
 done-lighter st at t ts bits awake later row =
     omega (arith, total-at st.left at t ts (row-within st.left at t ts row) row, size-few awake, size-few later)
 
-done-visits : (st : Stand) (at : ℕ) (t : Turn) (ts : List Turn) (bits : List Bool) (awake later : SessionSet) → length bits ≡ length st.told → Fits st → row_at st at ≡ t ∷ ts
+done-visits : (st : Stand) (at : ℕ) (t : LinedCommand) (ts : List LinedCommand) (bits : List Bool) (awake later : SessionSet) → length bits ≡ length st.told → Fits st → row_at st at ≡ t ∷ ts
     → GoesOn at st t.command bits awake later → Visits at st (with_done st at t ts bits awake later)
 done-visits st at t ts bits awake later long fits row g = record {
   fits = done-fits st at t ts bits awake later long fits row;

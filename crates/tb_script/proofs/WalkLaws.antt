@@ -6,20 +6,20 @@ use Rattle.std.proofs.lemmas.List.{get_or_default, get_or-set_same, get_or-set_o
 use Rattle.tb_script.specs.Rounds.{is_among, can_go, once_done, total, left_at_end}
 use Rattle.tb_script.specs.Runnable.{HasMarkBelow}
 use Rattle.tb_script.specs.Runs.{Steps, here, there, go}
-use Rattle.tb_script.specs.Walks.{State, is_told, waiters_of, row_of, HaveMarksBelow, Fits, Walks, IdlesBut, WaitsAt, Waits, CoveredBut, weight, Keeps, Visits, goes, told_with, past, done, with_ready}
+use Rattle.tb_script.specs.Walks.{WalkState, is_told, waiters_of, row_of, HaveMarksBelow, Fits, Walks, IdlesBut, WaitsAt, Waits, CoveredBut, weight, Keeps, Visits, goes, told_with, past, done, with_ready}
 use Rattle.tb_script.specs.declared.command.Command.{Command}
 use Rattle.tb_script.specs.declared.command.Command.TheVariants.{Load, Query, Tell, Hear}
-use Rattle.tb_script.specs.declared.turn.Turn.{Turn}
+use Rattle.tb_script.specs.declared.lined_command.LinedCommand.{LinedCommand}
 use Rattle.tb_script.proofs.RoundLaws.{IsStill, ends_alike}
 
 -- The next command of any session is done.
-steps-at : (told : List ℕ) (ss : List (List Turn)) (at : ℕ) (t : Turn) (ts : List Turn) → at < length ss → get_or ss at [] ≡ t ∷ ts → can_go told t.command ≡ true
+steps-at : (told : List ℕ) (ss : List (List LinedCommand)) (at : ℕ) (t : LinedCommand) (ts : List LinedCommand) → at < length ss → get_or ss at [] ≡ t ∷ ts → can_go told t.command ≡ true
     → Steps told ss (once_done told t.command) (set ss at ts)
 steps-at told [] at t ts within is can = absurd (omega (arith, within))
 steps-at told (s ∷ ss) zero t ts within is can = rw is (here t ts ss can)
 steps-at told (s ∷ ss) (suc at) t ts within is can = there s (steps-at told ss at t ts (omega (arith, within)) is can)
 
-pub total-at : (ss : List (List Turn)) (at : ℕ) (t : Turn) (ts : List Turn) → at < length ss → get_or ss at [] ≡ t ∷ ts → total (set ss at ts) + 1 ≡ total ss
+pub total-at : (ss : List (List LinedCommand)) (at : ℕ) (t : LinedCommand) (ts : List LinedCommand) → at < length ss → get_or ss at [] ≡ t ∷ ts → total (set ss at ts) + 1 ≡ total ss
 total-at [] at t ts within is = absurd (omega (arith, within))
 total-at (s ∷ ss) zero t ts within is = let long = ap length is in omega (arith, long)
 total-at (s ∷ ss) (suc at) t ts within is = omega (arith, total-at ss at t ts (omega (arith, within)) is)
@@ -36,13 +36,13 @@ module _ {X : Type 0} (P : X → Type 0) where
   all-at (y ∷ ys) (suc at) d all p = all-at ys at d all.1 p
 
 -- the marks of the next command and of those behind it
-pub row-below : (n : ℕ) (ss : List (List Turn)) (at : ℕ) (t : Turn) (ts : List Turn) → HaveMarksBelow n ss → get_or ss at [] ≡ t ∷ ts → HasMarkBelow n t.command × AllByRecursion (λ (u : Turn). HasMarkBelow n u.command) ts
+pub row-below : (n : ℕ) (ss : List (List LinedCommand)) (at : ℕ) (t : LinedCommand) (ts : List LinedCommand) → HaveMarksBelow n ss → get_or ss at [] ≡ t ∷ ts → HasMarkBelow n t.command × AllByRecursion (λ (u : LinedCommand). HasMarkBelow n u.command) ts
 row-below n ss at t ts below is =
-    subst (AllByRecursion (λ (u : Turn). HasMarkBelow n u.command)) is (all-at (AllByRecursion (λ (u : Turn). HasMarkBelow n u.command)) ss at [] below tt)
+    subst (AllByRecursion (λ (u : LinedCommand). HasMarkBelow n u.command)) is (all-at (AllByRecursion (λ (u : LinedCommand). HasMarkBelow n u.command)) ss at [] below tt)
 
-pub among-front : (m : ℕ) (ls rs : List ℕ) → is_among m ls ≡ true → is_among m (ls ++ rs) ≡ true
-among-front m [] rs e = absurd (false≢true e)
-among-front m (l ∷ ls) rs e = by (l == m) e (λ f. among-front m ls rs f)
+pub among-prefix : (m : ℕ) (ls rs : List ℕ) → is_among m ls ≡ true → is_among m (ls ++ rs) ≡ true
+among-prefix m [] rs e = absurd (false≢true e)
+among-prefix m (l ∷ ls) rs e = by (l == m) e (λ f. among-prefix m ls rs f)
   where
     by : (t : Bool) → (t || is_among m ls) ≡ true → (is_among m ls ≡ true → is_among m (ls ++ rs) ≡ true) → (t || is_among m (ls ++ rs)) ≡ true
     by true e ih = refl
@@ -82,50 +82,50 @@ told-agrees told bits (Query text) below agrees m = agrees m
 told-agrees told bits (Hear n name) below agrees m = agrees m
 
 -- what can be done by the marks told can be done by the list of them
-can-goes : (told : List ℕ) (st : State) (c : Command) → ((m : ℕ) → is_among m told ≡ is_told st m) → goes st c ≡ true → can_go told c ≡ true
+can-goes : (told : List ℕ) (st : WalkState) (c : Command) → ((m : ℕ) → is_among m told ≡ is_told st m) → goes st c ≡ true → can_go told c ≡ true
 can-goes told st (Hear m name) agrees e = agrees m ∙ e
 can-goes told st (Tell m name) agrees e = refl
 can-goes told st (Load n lines) agrees e = refl
 can-goes told st (Query text) agrees e = refl
 
 -- a session's next command, which can be done
-pub record IsAt (st : State) (at : ℕ) (t : Turn) (ts : List Turn) : Type 0 where
+pub record IsAt (st : WalkState) (at : ℕ) (t : LinedCommand) (ts : List LinedCommand) : Type 0 where
   pub within : at < length st.left
   pub row : row_of st at ≡ t ∷ ts
   pub goes : goes st t.command ≡ true
 
-done-walks : (ss : List (List Turn)) (st : State) (at : ℕ) (t : Turn) (ts : List Turn) → Fits st → IsAt st at t ts → Walks ss st → Walks ss (done st at t.command ts)
+done-walks : (ss : List (List LinedCommand)) (st : WalkState) (at : ℕ) (t : LinedCommand) (ts : List LinedCommand) → Fits st → IsAt st at t ts → Walks ss st → Walks ss (done st at t.command ts)
 done-walks ss st at t ts fits is w = record {
   told = once_done w.told t.command;
   run = go w.run (steps-at w.told st.left at t ts is.within is.row (can-goes w.told st t.command w.agrees is.goes));
   agrees = told-agrees w.told st.told t.command (row-below (length st.told) st.left at t ts fits.below is.row).0 w.agrees;
 }
 
-done-fits : (st : State) (at : ℕ) (t : Turn) (ts : List Turn) → Fits st → IsAt st at t ts → Fits (done st at t.command ts)
+done-fits : (st : WalkState) (at : ℕ) (t : LinedCommand) (ts : List LinedCommand) → Fits st → IsAt st at t ts → Fits (done st at t.command ts)
 done-fits st at t ts fits is =
     let long = told-length st.told t.command in
     let rest = (row-below (length st.told) st.left at t ts fits.below is.row).1 in
     record {
       same = fits.same ∙ sym long;
-      below = subst (λ n. HaveMarksBelow n (set st.left at ts)) (sym long) (all-set (AllByRecursion (λ (u : Turn). HasMarkBelow (length st.told) u.command)) st.left at ts fits.below rest);
+      below = subst (λ n. HaveMarksBelow n (set st.left at ts)) (sym long) (all-set (AllByRecursion (λ (u : LinedCommand). HasMarkBelow (length st.told) u.command)) st.left at ts fits.below rest);
     }
 
 -- a command that is done leaves less to do, though its session is looked at again
-pub done-keeps : (st : State) (at : ℕ) (t : Turn) (ts : List Turn) → Fits st → IsAt st at t ts → Keeps st (done st at t.command ts)
+pub done-keeps : (st : WalkState) (at : ℕ) (t : LinedCommand) (ts : List LinedCommand) → Fits st → IsAt st at t ts → Keeps st (done st at t.command ts)
 done-keeps st at t ts fits is = record {
   fits = done-fits st at t ts fits is;
   walks = λ ss w. done-walks ss st at t ts fits is w;
   lighter = omega (arith, total-at st.left at t ts is.within is.row, length-append st.ready (at ∷ []));
 }
 
-pub keeps-then : (a b c : State) → Keeps a b → Keeps b c → Keeps a c
+pub keeps-then : (a b c : WalkState) → Keeps a b → Keeps b c → Keeps a c
 keeps-then a b c k l = record { fits = l.fits; walks = λ ss w. l.walks ss (k.walks ss w); lighter = omega (arith, k.lighter, l.lighter) }
 
 -- the sessions but one are as they were
-row-other : (st : State) (at other : ℕ) (ts : List Turn) → (at == other) ≡ false → get_or (set st.left at ts) other [] ≡ row_of st other
+row-other : (st : WalkState) (at other : ℕ) (ts : List LinedCommand) → (at == other) ≡ false → get_or (set st.left at ts) other [] ≡ row_of st other
 row-other st at other ts e = get_or-set_other st.left at other ts [] (apart at other e)
 
-waits-more : (a b : State) (at : ℕ) (s : List Turn) → ((m : ℕ) → is_among at (waiters_of a m) ≡ true → is_among at (waiters_of b m) ≡ true) → Waits a at s → Waits b at s
+waits-more : (a b : WalkState) (at : ℕ) (s : List LinedCommand) → ((m : ℕ) → is_among at (waiters_of a m) ≡ true → is_among at (waiters_of b m) ≡ true) → Waits a at s → Waits b at s
 waits-more a b at [] more w = w
 waits-more a b at (t ∷ ts) more w = by t.command w
   where
@@ -136,23 +136,23 @@ waits-more a b at (t ∷ ts) more w = by t.command w
     by (Query text) w = w
 
 -- what covers a session still does, where the same is left, and it is looked at and waits as before
-pub covered-more : (a b : State) (at : ℕ) → row_of b at ≡ row_of a at → (is_among at a.ready ≡ true → is_among at b.ready ≡ true)
+pub covered-more : (a b : WalkState) (at : ℕ) → row_of b at ≡ row_of a at → (is_among at a.ready ≡ true → is_among at b.ready ≡ true)
     → ((m : ℕ) → is_among at (waiters_of a m) ≡ true → is_among at (waiters_of b m) ≡ true)
     → (is_among at a.ready ≡ true) ⊎ Waits a at (row_of a at) → (is_among at b.ready ≡ true) ⊎ Waits b at (row_of b at)
 covered-more a b at row ready more (inl e) = inl (ready e)
 covered-more a b at row ready more (inr w) = inr (subst (Waits b at) (sym row) (waits-more a b at (row_of a at) more w))
 
-pub done-covers : (st : State) (at : ℕ) (c : Command) (ts : List Turn) → CoveredBut (at ∷ []) st → CoveredBut [] (done st at c ts)
+pub done-covers : (st : WalkState) (at : ℕ) (c : Command) (ts : List LinedCommand) → CoveredBut (at ∷ []) st → CoveredBut [] (done st at c ts)
 done-covers st at c ts covered other none = by (at == other) refl
   where
     by : (t : Bool) → (at == other) ≡ t → (is_among other (st.ready ++ at ∷ []) ≡ true) ⊎ Waits (done st at c ts) other (get_or (set st.left at ts) other [])
     by true e = inl (subst (λ n. is_among n (st.ready ++ at ∷ []) ≡ true) (eqb-true at other e) (among-last at st.ready))
-    by false e = covered-more st (done st at c ts) other (row-other st at other ts e) (λ f. among-front other st.ready (at ∷ []) f) (λ m f. f) (covered other (rw e refl))
+    by false e = covered-more st (done st at c ts) other (row-other st at other ts e) (λ f. among-prefix other st.ready (at ∷ []) f) (λ m f. f) (covered other (rw e refl))
 
 -- a command that tells nothing lets no session go on
-pub past-visits : (st : State) (at : ℕ) (t : Turn) (ts : List Turn) → told_with st.told t.command ≡ st.told → Fits st → IsAt st at t ts → Visits at st (past st at ts)
+pub past-visits : (st : WalkState) (at : ℕ) (t : LinedCommand) (ts : List LinedCommand) → told_with st.told t.command ≡ st.told → Fits st → IsAt st at t ts → Visits at st (past st at ts)
 past-visits st at t ts none fits is =
-    let same : ◌≡◌ {A = State} (done st at t.command ts) (past st at ts) = ap (λ bits. record { left = set st.left at ts; told = bits; waiters = st.waiters; ready = st.ready ++ at ∷ [] }) none in
+    let same : ◌≡◌ {A = WalkState} (done st at t.command ts) (past st at ts) = ap (λ bits. record { left = set st.left at ts; told = bits; waiters = st.waiters; ready = st.ready ++ at ∷ [] }) none in
     record {
       keeps = subst (Keeps st) same (done-keeps st at t ts fits is);
       idles = λ i. i;
@@ -160,28 +160,28 @@ past-visits st at t ts none fits is =
     }
 
 -- the mark of the next command has a place
-pub mark-within : (st : State) (at m : ℕ) (t : Turn) (ts : List Turn) (c : Command) → Fits st → row_of st at ≡ t ∷ ts → t.command ≡ c → HasMarkBelow (length st.told) c
+pub mark-within : (st : WalkState) (at m : ℕ) (t : LinedCommand) (ts : List LinedCommand) (c : Command) → Fits st → row_of st at ≡ t ∷ ts → t.command ≡ c → HasMarkBelow (length st.told) c
 mark-within st at m t ts c fits row is = subst (HasMarkBelow (length st.told)) is (row-below (length st.told) st.left at t ts fits.below row).0
 
 -- the next session to be looked at is taken
-pub popped-ready : (st : State) (at : ℕ) (list : List ℕ) → st.ready ≡ list ++ at ∷ [] → CoveredBut [] st → CoveredBut (at ∷ []) (with_ready st list)
+pub popped-ready : (st : WalkState) (at : ℕ) (list : List ℕ) → st.ready ≡ list ++ at ∷ [] → CoveredBut [] st → CoveredBut (at ∷ []) (with_ready st list)
 popped-ready st at list is covered other not = by (at == other) refl not
   where
     by : (b : Bool) → (at == other) ≡ b → ((at == other) || false) ≡ false → (is_among other list ≡ true) ⊎ Waits (with_ready st list) other (row_of st other)
     by true e f = absurd (false≢true (sym f ∙ rw e refl))
     by false e f = covered-more st (with_ready st list) other refl (λ g. sym (among-other other at list e) ∙ ap (is_among other) (sym is) ∙ g) (λ m g. g) (covered other refl)
 
-pub ready-weight : (st : State) (at : ℕ) (list : List ℕ) → st.ready ≡ list ++ at ∷ [] → weight (with_ready st list) < weight st
+pub ready-weight : (st : WalkState) (at : ℕ) (list : List ℕ) → st.ready ≡ list ++ at ∷ [] → weight (with_ready st list) < weight st
 ready-weight st at list is = omega (arith, ap length is, length-append list (at ∷ []))
 
 -- what is left, row by row
-pub still-from : (told : List ℕ) (ss : List (List Turn)) → ((at : ℕ) (t : Turn) (ts : List Turn) → get_or ss at [] ≡ t ∷ ts → can_go told t.command ≡ false) → IsStill told ss
+pub still-from : (told : List ℕ) (ss : List (List LinedCommand)) → ((at : ℕ) (t : LinedCommand) (ts : List LinedCommand) → get_or ss at [] ≡ t ∷ ts → can_go told t.command ≡ false) → IsStill told ss
 still-from told [] rows = tt
 still-from told ([] ∷ ss) rows = still-from told ss (λ at t ts e. rows (suc at) t ts e)
 still-from told ((t ∷ ts) ∷ ss) rows = (rows zero t ts refl, still-from told ss (λ at u us e. rows (suc at) u us e))
 
 -- a session that waits can't go on
-waits-still : (st : State) (told : List ℕ) (at : ℕ) (t : Turn) (ts : List Turn) → ((m : ℕ) → is_among m told ≡ is_told st m) → IdlesBut [] st → Waits st at (t ∷ ts) → can_go told t.command ≡ false
+waits-still : (st : WalkState) (told : List ℕ) (at : ℕ) (t : LinedCommand) (ts : List LinedCommand) → ((m : ℕ) → is_among m told ≡ is_told st m) → IdlesBut [] st → Waits st at (t ∷ ts) → can_go told t.command ≡ false
 waits-still st told at t ts agrees idles w = by t.command w
   where
     quiet : (m : ℕ) (b : Bool) → is_told st m ≡ b → is_among at (waiters_of st m) ≡ true → b ≡ false
@@ -195,10 +195,10 @@ waits-still st told at t ts agrees idles w = by t.command w
     by (Query text) w = absurd w
 
 -- At the end of a walk there is left what the rounds leave.
-pub end-left : (ss : List (List Turn)) (st : State) → Walks ss st → IdlesBut [] st → CoveredBut [] st → st.ready ≡ [] → st.left ≡ left_at_end ss
+pub end-left : (ss : List (List LinedCommand)) (st : WalkState) → Walks ss st → IdlesBut [] st → CoveredBut [] st → st.ready ≡ [] → st.left ≡ left_at_end ss
 end-left ss st w idles covered none = ends_alike w.told ss st.left w.run (still-from w.told st.left (λ at t ts e. by at t ts e (covered at refl)))
   where
-    by : (at : ℕ) (t : Turn) (ts : List Turn) → row_of st at ≡ t ∷ ts → (is_among at st.ready ≡ true) ⊎ Waits st at (row_of st at) → can_go w.told t.command ≡ false
+    by : (at : ℕ) (t : LinedCommand) (ts : List LinedCommand) → row_of st at ≡ t ∷ ts → (is_among at st.ready ≡ true) ⊎ Waits st at (row_of st at) → can_go w.told t.command ≡ false
     by at t ts e (inl f) = absurd (false≢true (ap (is_among at) (sym none) ∙ f))
     by at t ts e (inr v) = waits-still st w.told at t ts w.agrees idles (subst (Waits st at) e v)
 
@@ -208,7 +208,7 @@ on_ok (Ok x) f p = f p
 on_ok (Err e) f p = tt
 
 -- a session whose next command tells nothing goes on
-pub go-visits : (st new : State) (at : ℕ) (t : Turn) (ts : List Turn) → told_with st.told t.command ≡ st.told → goes st t.command ≡ true → Fits st
+pub go-visits : (st new : WalkState) (at : ℕ) (t : LinedCommand) (ts : List LinedCommand) → told_with st.told t.command ≡ st.told → goes st t.command ≡ true → Fits st
     → (row_of st at ≡ t ∷ ts) × (at < length st.left) → new ≡ past st at ts → Visits at st new
 go-visits st new at t ts tells going fits next is =
     subst (Visits at st) (sym is) (past-visits st at t ts tells fits (record { within = next.1; row = next.0; goes = going }))

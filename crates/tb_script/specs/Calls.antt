@@ -7,13 +7,13 @@ use Rattle.tb_script.specs.Sessions.{marks_of, sessions_in, unknown_mark}
 use Rattle.tb_script.specs.Runnable.{commands_in}
 use Rattle.tb_script.specs.Rounds.{stuck_line}
 use Rattle.tb_script.specs.declared.entry.Entry.{Entry}
-use Rattle.tb_script.specs.declared.turn.Turn.{Turn}
+use Rattle.tb_script.specs.declared.lined_command.LinedCommand.{LinedCommand}
 use Rattle.tb_script.specs.declared.command.Workload.{Workload}
 use Rattle.tb_script.specs.declared.fault.ScriptFault.{ScriptFault}
 use Rattle.tb_script.specs.declared.fault.ScriptFault.TheVariants.{InputTooLong, MarkStuck, NoMemory}
 
 -- the sessions of a script, each command with its line
-abbrev pub sessions_of : List Entry → List (List Turn)
+abbrev pub sessions_of : List Entry → List (List LinedCommand)
 sessions_of es = sessions_in (marks_of es) es
 
 -- the first fault of the lines: that of a line, then a mark that no line tells, then sessions that

@@ -1,4 +1,4 @@
--- Words of the private clauses: what is cut from the front of the bytes that are left.
+-- Words of the private clauses: what is cut from the prefix of the bytes that are left.
 use Rattle.std.specs.Prelude.{◌≡◌, ℕ, ◌+◌, ◌<◌, ◌≤◌, Bool, List, [], ◌∷◌, ◌++◌, Option, Some, None, length}
 use Rattle.tb_script.specs.Lines.{whole_lines, text_of}
 use Rattle.tb_script.specs.Entries.{no_body, load_body, query_text, entry, alone, opened, entries}
@@ -24,9 +24,9 @@ NextWhole bytes (Some cut) = CutsFirst bytes cut
 NextWhole bytes None = bytes ≡ []
 
 -- The entries from line n on go on from line m with the bytes left, which leave room for their numbers.
-pub record GoesOn (front all : List Entry) (n : ℕ) (bytes : List ℕ) (m : ℕ) (rest : List ℕ)
+pub record GoesOn (prefix all : List Entry) (n : ℕ) (bytes : List ℕ) (m : ℕ) (rest : List ℕ)
     : Type 0 where
-  pub entries_are : all ≡ front ++ entries no_body m (whole_lines rest)
+  pub entries_are : all ≡ prefix ++ entries no_body m (whole_lines rest)
   pub numbers : m + length rest ≤ n + length bytes
   pub later : n ≤ m
 

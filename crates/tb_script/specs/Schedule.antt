@@ -5,24 +5,24 @@ use Rattle.std.specs.Option.{option_to_list}
 use Rattle.tb_script.specs.Rounds.{is_among, can_go, once_done, told_behind, told_in_round, left_in_round, total, numbered}
 use Rattle.tb_script.specs.declared.command.Command.{Command}
 use Rattle.tb_script.specs.declared.command.Command.TheVariants.{Tell, Hear}
-use Rattle.tb_script.specs.declared.turn.Turn.{Turn}
+use Rattle.tb_script.specs.declared.lined_command.LinedCommand.{LinedCommand}
 use Rattle.tb_script.specs.declared.turnstep.Turnstep.{Turnstep}
 
 -- The step of a session's turn, or none where its next command can't be done. What stands as a line here
 -- is the command's number, from 0 (`numbered`).
-abbrev pub steps_behind : ℕ → List ℕ → List Turn → List Turnstep
+abbrev pub steps_behind : ℕ → List ℕ → List LinedCommand → List Turnstep
 steps_behind session told [] = []
 steps_behind session told (t ∷ ts) =
     if can_go told t.command then record { session = session; command = t.line } ∷ [] else []
 
 -- the steps of one round, from session to session, the first of which has this number
-abbrev pub steps_in_round : ℕ → List ℕ → List (List Turn) → List Turnstep
+abbrev pub steps_in_round : ℕ → List ℕ → List (List LinedCommand) → List Turnstep
 steps_in_round session told [] = []
 steps_in_round session told (s ∷ ss) =
     steps_behind session told s ++ steps_in_round (session + 1) (told_behind told s) ss
 
 -- the steps of so many rounds
-abbrev pub steps_by_rounds : ℕ → List ℕ → List (List Turn) → List Turnstep
+abbrev pub steps_by_rounds : ℕ → List ℕ → List (List LinedCommand) → List Turnstep
 steps_by_rounds zero told ss = []
 steps_by_rounds (suc k) told ss =
     steps_in_round 0 told ss ++ steps_by_rounds k (told_in_round told ss) (left_in_round told ss)

@@ -5,7 +5,7 @@ use Rattle.tb_script.specs.Faults.{place_of, or_else}
 use Rattle.tb_script.specs.declared.entry.Said.{Said}
 use Rattle.tb_script.specs.declared.entry.Said.TheVariants.{Session, Load, Query, Tell, Hear}
 use Rattle.tb_script.specs.declared.entry.Entry.{Entry}
-use Rattle.tb_script.specs.declared.turn.Turn.{Turn}
+use Rattle.tb_script.specs.declared.lined_command.LinedCommand.{LinedCommand}
 use Rattle.tb_script.specs.declared.command.Command.TheVariants as command
 use Rattle.tb_script.specs.declared.fault.ScriptFault.{ScriptFault}
 use Rattle.tb_script.specs.declared.fault.ScriptFault.TheVariants.{MarkUnknown}
@@ -25,32 +25,32 @@ abbrev pub number_of : List (List ℕ) → List ℕ → ℕ
 number_of marks name = option_map_or (λ n. n) (place_of name marks) 0
 
 -- the command of a line, with the line's number
-abbrev pub turns_of : List (List ℕ) → ℕ → Said → List Turn
-turns_of marks n (Load name lines closed) =
+abbrev pub lined_of : List (List ℕ) → ℕ → Said → List LinedCommand
+lined_of marks n (Load name lines closed) =
     record { line = n; command = command.Load name lines } ∷ []
-turns_of marks n (Query text closed) =
+lined_of marks n (Query text closed) =
     record { line = n; command = command.Query text } ∷ []
-turns_of marks n (Tell name) =
+lined_of marks n (Tell name) =
     record { line = n; command = command.Tell (number_of marks name) name } ∷ []
-turns_of marks n (Hear name) =
+lined_of marks n (Hear name) =
     record { line = n; command = command.Hear (number_of marks name) name } ∷ []
-turns_of marks n _ = []
+lined_of marks n _ = []
 
 abbrev pub is_session : Said → Bool
 is_session Session = true
 is_session _ = false
 
 -- the commands up to the next `session` line
-abbrev pub front_turns : List (List ℕ) → List Entry → List Turn
-front_turns marks [] = []
-front_turns marks (e ∷ es) =
-    if is_session e.said then [] else turns_of marks e.line e.said ++ front_turns marks es
+abbrev pub prefix_turns : List (List ℕ) → List Entry → List LinedCommand
+prefix_turns marks [] = []
+prefix_turns marks (e ∷ es) =
+    if is_session e.said then [] else lined_of marks e.line e.said ++ prefix_turns marks es
 
 -- the sessions with their commands
-abbrev pub sessions_in : List (List ℕ) → List Entry → List (List Turn)
+abbrev pub sessions_in : List (List ℕ) → List Entry → List (List LinedCommand)
 sessions_in marks [] = []
 sessions_in marks (e ∷ es) =
-    if is_session e.said then front_turns marks es ∷ sessions_in marks es else sessions_in marks es
+    if is_session e.said then prefix_turns marks es ∷ sessions_in marks es else sessions_in marks es
 
 -- the mark of a `hear` that no line tells
 abbrev pub unknown_at : List (List ℕ) → ℕ → Said → Option ScriptFault

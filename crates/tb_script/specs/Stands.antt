@@ -9,7 +9,7 @@ use Rattle.tb_script.specs.Schedule.{steps_in_round, steps_by_rounds, schedule_o
 use Rattle.tb_script.specs.Sets.{holds, size}
 use Rattle.tb_script.specs.declared.command.Command.{Command}
 use Rattle.tb_script.specs.declared.command.Command.TheVariants.{Hear}
-use Rattle.tb_script.specs.declared.turn.Turn.{Turn}
+use Rattle.tb_script.specs.declared.lined_command.LinedCommand.{LinedCommand}
 use Rattle.tb_script.specs.declared.turnstep.Turnstep.{Turnstep}
 use Rattle.tb_script.specs.declared.session_set.SessionSet.{SessionSet}
 use Rattle.tb_script.specs.declared.round.Rest.{Rest}
@@ -18,7 +18,7 @@ use Rattle.tb_script.specs.declared.round.Round.{Round}
 -- What is left of each session, which marks are told, which sessions wait for each mark, which are to
 -- be looked at in this round and in the next, and the steps so far.
 pub record Stand : Type 0 where
-  pub left : List (List Turn)
+  pub left : List (List LinedCommand)
   pub told : List Bool
   pub waiters : List SessionSet
   pub awake : SessionSet
@@ -26,7 +26,7 @@ pub record Stand : Type 0 where
   pub steps : List Turnstep
 
 -- what is left of a session, with its numbers
-abbrev pub row_of : Rest → List Turn
+abbrev pub row_of : Rest → List LinedCommand
 row_of r = numbered r.number r.commands.now
 
 abbrev pub stand_of : Round → Stand
@@ -40,7 +40,7 @@ stand_of r = record {
 }
 
 -- what is left of a session, which is nothing where there is no such session
-abbrev pub row_at : Stand → ℕ → List Turn
+abbrev pub row_at : Stand → ℕ → List LinedCommand
 row_at st at = get_or st.left at []
 
 -- the sessions that wait for a mark
@@ -48,7 +48,7 @@ abbrev pub waiters_of : List SessionSet → ℕ → SessionSet
 waiters_of waiters mark = get_or waiters mark (record { bits = 0 })
 
 -- a command's mark has a place, and its number is small
-pub record FitsAt (marks : ℕ) (t : Turn) : Type 0 where
+pub record FitsAt (marks : ℕ) (t : LinedCommand) : Type 0 where
   pub mark : HasMarkBelow marks t.command
   pub number : t.line < 10000
 
@@ -63,7 +63,7 @@ weight st = 5000 * total st.left + 65 * size st.later + size st.awake
 
 -- The steps from here on: in this round those of the sessions from a number on, then those of so
 -- many rounds.
-abbrev pub to_come : ℕ → ℕ → List ℕ → List (List Turn) → List Turnstep
+abbrev pub to_come : ℕ → ℕ → List ℕ → List (List LinedCommand) → List Turnstep
 to_come k from told ss =
     steps_in_round from told (drop from ss)
     ++ steps_by_rounds k (told_in_round told (drop from ss))
@@ -76,7 +76,7 @@ WaitsAt told waiters at (Hear mark name) =
 WaitsAt told waiters at _ = ⊥
 
 -- nothing is left of a session, or it waits for a mark that isn't told yet
-abbrev pub Waits : List Bool → List SessionSet → ℕ → List Turn → Type 0
+abbrev pub Waits : List Bool → List SessionSet → ℕ → List LinedCommand → Type 0
 Waits told waiters at [] = Unit {0}
 Waits told waiters at (t ∷ ts) = WaitsAt told waiters at t.command
 

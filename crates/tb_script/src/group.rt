@@ -5,8 +5,8 @@ ghost use Rattle.tb_script.specs.Tallies.{Tells};
 ghost use Rattle.tb_script.specs.Groups.{ended, listed, TurnIs, Groups};
 
 use crate::entry::{Entry, Said};
+use crate::lined_command::LinedCommand;
 use crate::marks::Marks;
-use crate::turn::Turn;
 use crate::{Command, ScriptFault};
 use std::alloc::{AllocError, Global};
 
@@ -16,7 +16,7 @@ pub fn sessions_of(
     alloc: Global,
     entries: Vec<Entry>,
     marks: &Marks,
-) -> Result<Vec<Vec<Turn>>, ScriptFault>
+) -> Result<Vec<Vec<LinedCommand>>, ScriptFault>
     ensures { (names : List (List ℕ)) → Tells marks.now names → Groups names entries.items result }
 {
     let mut sessions = Vec::new(alloc);
@@ -39,9 +39,9 @@ pub fn sessions_of(
 
 /// Keeps the commands of a session, where one is begun.
 fn end_session(
-    sessions: &mut Vec<Vec<Turn>>,
+    sessions: &mut Vec<Vec<LinedCommand>>,
     begun: bool,
-    turns: Vec<Turn>,
+    turns: Vec<LinedCommand>,
 ) -> Result<(), AllocError>
     ensures { OnOk result
         (listed sessions.new.items ≡ ended (listed sessions.old.items) begun turns.items) }
@@ -53,7 +53,7 @@ fn end_session(
 }
 
 /// The command of an entry, where it has one.
-fn turn_of(entry: Entry, marks: &Marks) -> Result<Option<Turn>, ScriptFault>
+fn turn_of(entry: Entry, marks: &Marks) -> Result<Option<LinedCommand>, ScriptFault>
     ensures { (names : List (List ℕ)) → Tells marks.now names → TurnIs names entry result }
 {
     let line = entry.line;
@@ -72,5 +72,5 @@ fn turn_of(entry: Entry, marks: &Marks) -> Result<Option<Turn>, ScriptFault>
             Command::Hear { mark, name }
         }
     };
-    Ok(Some(Turn { line, command }))
+    Ok(Some(LinedCommand { line, command }))
 }

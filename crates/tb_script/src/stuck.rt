@@ -5,7 +5,7 @@ ghost use Rattle.tb_script.specs.Rounds.{is_among, lesser, least_line, stuck_lin
 ghost use Rattle.tb_script.specs.Groups.{listed};
 ghost use Rattle.tb_script.specs.Walks.{HaveMarksBelow, Starts, state_of};
 
-use crate::turn::Turn;
+use crate::lined_command::LinedCommand;
 use crate::walk::Walk;
 use std::alloc::{AllocError, Global};
 
@@ -13,7 +13,7 @@ use std::alloc::{AllocError, Global};
 /// numbers below `marks`.
 pub fn stuck_line(
     alloc: Global,
-    sessions: &[Vec<Turn>],
+    sessions: &[Vec<LinedCommand>],
     marks: u32,
 ) -> Result<Option<u32>, AllocError>
     requires marks { HaveMarksBelow marks (listed sessions.now) }
@@ -24,7 +24,11 @@ pub fn stuck_line(
     Ok(least_line(&walk.rests))
 }
 
-fn start<'a>(alloc: Global, sessions: &'a [Vec<Turn>], marks: u32) -> Result<Walk<'a>, AllocError>
+fn start<'a>(
+    alloc: Global,
+    sessions: &'a [Vec<LinedCommand>],
+    marks: u32,
+) -> Result<Walk<'a>, AllocError>
     requires marks { HaveMarksBelow marks (listed sessions.now) }
     ensures { IfOk result (λ walk. Starts (listed sessions.now) (state_of walk)) }
 {
@@ -36,7 +40,10 @@ fn start<'a>(alloc: Global, sessions: &'a [Vec<Turn>], marks: u32) -> Result<Wal
     })
 }
 
-fn rests_of<'a>(alloc: Global, sessions: &'a [Vec<Turn>]) -> Result<Vec<&'a [Turn]>, AllocError>
+fn rests_of<'a>(
+    alloc: Global,
+    sessions: &'a [Vec<LinedCommand>],
+) -> Result<Vec<&'a [LinedCommand]>, AllocError>
     ensures { IfOk result (λ rests. map (λ r. r.now) rests.items ≡ listed sessions.now) }
 {
     let mut rests = Vec::new(alloc);
@@ -78,7 +85,7 @@ fn places(alloc: Global, count: usize) -> Result<Vec<usize>, AllocError>
     Ok(places)
 }
 
-fn least_line(rests: &[&[Turn]]) -> Option<u32>
+fn least_line(rests: &[&[LinedCommand]]) -> Option<u32>
     ensures { result ≡ least_line (map (λ r. r.now) rests.now) }
 {
     let mut least: Option<u32> = None;

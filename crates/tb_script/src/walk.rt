@@ -5,14 +5,14 @@ ghost use Rattle.std.specs.Option.{option_map};
 ghost use Rattle.tb_script.specs.Walks.{Fits, Visits, Wakes, Ends, IdlesBut, CoveredBut, Hears, Pops, IsNext, hears, state_of, is_told, waiters_of, past, telling, waiting, with_waiters};
 
 use crate::Command;
-use crate::turn::Turn;
+use crate::lined_command::LinedCommand;
 use std::alloc::AllocError;
 
 /// What is left of each session, which marks are told, which sessions wait for each mark, and which
 /// sessions are to be looked at.
 #[derive(Drop)]
 pub struct Walk<'a> {
-    pub rests: Vec<&'a [Turn]>,
+    pub rests: Vec<&'a [LinedCommand]>,
     pub told: Vec<bool>,
     pub waiters: Vec<Vec<usize>>,
     pub ready: Vec<usize>,
@@ -20,7 +20,7 @@ pub struct Walk<'a> {
 
 impl<'a> Walk<'a> {
     /// The next command of a session, and those behind it.
-    fn next(&self, at: usize) -> Option<(&'a Turn, &'a [Turn])>
+    fn next(&self, at: usize) -> Option<(&'a LinedCommand, &'a [LinedCommand])>
         ensures { IsNext (state_of self.now) at
             (option_map (λ next. (next.0.now, next.1.now)) result) }
     {
@@ -31,7 +31,7 @@ impl<'a> Walk<'a> {
     }
 
     /// Notes that the next command of a session is done.
-    fn go(&mut self, at: usize, rest: &'a [Turn]) -> Result<(), AllocError>
+    fn go(&mut self, at: usize, rest: &'a [LinedCommand]) -> Result<(), AllocError>
         requires within { at < length self.old.rests.items }
         ensures { OnOk result (state_of self.new ≡ past (state_of self.old) at rest.now) }
     {
@@ -47,7 +47,7 @@ impl<'a> Walk<'a> {
         self.told[mark as usize] = true;
     }
 
-    fn wait(&mut self, mark: u32, at: usize) -> Result<(), AllocError>
+    fn note_waiter(&mut self, mark: u32, at: usize) -> Result<(), AllocError>
         requires within { mark < length self.old.waiters.items }
         ensures { OnOk result (state_of self.new ≡ waiting (state_of self.old) mark at) }
     {
@@ -110,7 +110,7 @@ impl<'a> Walk<'a> {
                 if self.told[*mark as usize] {
                     return self.go(at, rest);
                 }
-                self.wait(*mark, at)
+                self.note_waiter(*mark, at)
             }
         }
     }

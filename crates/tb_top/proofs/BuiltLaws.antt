@@ -16,7 +16,7 @@ pub built-form : (t : List ℕ) → IsFaultOf t None → IsBuilt (Query t) → t
 built-form t none (inl is) = is
 built-form t none (inr refused) = absurd (never-both t refused.0 none refused.1)
 
-some : (o : Option text.Query) → is_some o ≡ true → (q : text.Query) × (o ≡ Some q)
+some : (o : Option text.TwoNamesQuery) → is_some o ≡ true → (q : text.TwoNamesQuery) × (o ≡ Some q)
 some None e = absurd (false≢true e)
 some (Some q) e = (q, refl)
 

@@ -15,7 +15,7 @@ use Rattle.tb_script.specs.declared.command.Command.TheVariants.{Load, Query, Te
 use Rattle.tb_script.specs.declared.command.Workload.{Workload}
 use Rattle.tb_script.specs.declared.turnstep.Turnstep.{Turnstep}
 use Rattle.tb_core.specs.World.{State, answer, after, run, after_all}
-use Rattle.tb_core.specs.Replay.{Numbered}
+use Rattle.tb_core.specs.Replay.{NumberedEvent}
 use Rattle.tb_core.specs.declared.event.Event.{Event}
 use Rattle.tb_top.specs.Answer.{answer_of, two_names}
 use Rattle.tb_top.specs.History.{Change, document_in}
@@ -150,7 +150,7 @@ pub done-more : (w : Workload) (steps : List Turnstep) (p q : Progress) (step : 
 done-more w steps p q step c done is within does =
     let d : Deed = record { session = step.session; place = step.command; command = c; result = does.result } in
     let more = event_of step.session c does.result in
-    let event = λ (x : Numbered). x.event in
+    let event = λ (x : NumberedEvent). x.event in
     let old = map event (events_of done.ds) in
     let history = history_of done.ds in
     let events : events_of (done.ds ++ d ∷ []) ≡ events_of done.ds ++ more = events-more done.ds d in
@@ -166,7 +166,7 @@ done-more w steps p q step c done is within does =
       commands = all-append _ done.ds (d ∷ []) done.commands (is, tt);
       numbers =
           ap (run (world_of w)) named ∙ run-append (world_of w) old (map event more) ∙ ap₂ (λ a b. a ++ b) done.numbers answers
-          ∙ sym (map-append (λ (x : Numbered). Some x.number) (events_of done.ds) more) ∙ ap (map (λ x. Some x.number)) (sym events);
+          ∙ sym (map-append (λ (x : NumberedEvent). Some x.number) (events_of done.ds) more) ∙ ap (map (λ x. Some x.number)) (sym events);
       results =
           subst (λ cs. AllByRecursion (λ x. IsResult cs x.command x.result) (done.ds ++ d ∷ [])) (sym longer)
           (all-append _ done.ds (d ∷ []) (all-weaker _ _ done.ds (λ x r. result-stays history made x.command x.result r) done.results) (result-stays history made c does.result may, tt));

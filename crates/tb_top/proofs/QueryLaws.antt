@@ -6,7 +6,7 @@ use Rattle.tb_tree.proofs.lists.Options.{bind_some}
 use Rattle.std.proofs.lemmas.Option.{cond_some}
 use Rattle.tb_script.specs.Forms.{is_label}
 use Rattle.tb_top.specs.Names.{is_query_name}
-use Rattle.tb_top.specs.QueryText.{Query, IsQuery, query_line}
+use Rattle.tb_top.specs.QueryText.{TwoNamesQuery, IsQuery, query_line}
 use Rattle.tb_top.specs.Cuts.{behind, before, label_at, name_at, query_of, query_in}
 use Rattle.tb_top.proofs.CutLaws.{behind-some, before-end, before-some, label_at-label, label_at-some, Stops, name_at-name, name_at-some, bytes_eq-is}
 
@@ -66,7 +66,7 @@ query_of-some line document first second e =
       second_named = subst (λ x. IsTrue (is_query_name x)) same.2 two.1;
     }
 
-pub query_in-text : (text : List ℕ) (q : Query) → IsQuery text q → query_in text ≡ Some q
+pub query_in-text : (text : List ℕ) (q : TwoNamesQuery) → IsQuery text q → query_in text ≡ Some q
 unfolding query_in
 query_in-text text q is =
     rw (
@@ -76,14 +76,14 @@ query_in-text text q is =
       le-leb (length (query_line q)) 65535 is.short,
     ) refl
 
-pub query_in-some : (text : List ℕ) (q : Query) → query_in text ≡ Some q → IsQuery text q
+pub query_in-some : (text : List ℕ) (q : TwoNamesQuery) → query_in text ≡ Some q → IsQuery text q
 unfolding query_in
 query_in-some text q e =
     let a = bind_some (before (codes "\n") text) _ q e in
     let b = bind_some (query_of a.0) _ q a.2 in
     let end = cond_some (nat_le (length a.0) 65535) (record { document = b.0.0; first = b.0.1; second = b.0.2 }) q b.2 in
     let line = query_of-some a.0 b.0.0 b.0.1 b.0.2 b.1 in
-    let found : Query = record { document = b.0.0; first = b.0.1; second = b.0.2 } in
+    let found : TwoNamesQuery = record { document = b.0.0; first = b.0.1; second = b.0.2 } in
     let is : IsQuery text found =
     record {
       spelled = before-some (codes "\n") text a.0 a.1 ∙ ap (λ l. l ++ codes "\n") line.is;
@@ -95,7 +95,7 @@ query_in-some text q e =
     subst (IsQuery text) end.1 is
 
 -- Two queries of one text are one.
-pub query-unique : (text : List ℕ) (q z : Query) → IsQuery text q → IsQuery text z → q ≡ z
+pub query-unique : (text : List ℕ) (q z : TwoNamesQuery) → IsQuery text q → IsQuery text z → q ≡ z
 query-unique text q z one two =
-    let both : ◌≡◌ {A = Option Query} (Some q) (Some z) = sym (query_in-text text q one) ∙ query_in-text text z two in
+    let both : ◌≡◌ {A = Option TwoNamesQuery} (Some q) (Some z) = sym (query_in-text text q one) ∙ query_in-text text z two in
     cc

@@ -12,7 +12,7 @@ use Rattle.tb_script.specs.declared.command.Workload.{Workload}
 use Rattle.tb_script.specs.declared.turnstep.Turnstep.{Turnstep}
 use Rattle.tb_core.specs.declared.event.Event.TheVariants as event_kind
 use Rattle.tb_core.specs.World.{State, with_seen, answer, after, run, after_all}
-use Rattle.tb_core.specs.Replay.{Numbered}
+use Rattle.tb_core.specs.Replay.{NumberedEvent}
 use Rattle.tb_core.specs.declared.event.Event.{Event}
 use Rattle.tb_top.specs.Answer.{answer_of, two_names}
 use Rattle.tb_top.specs.QueryText as text
@@ -27,14 +27,14 @@ use Rattle.tb_tree.proofs.lists.Parts.{parts-same, first-same}
 use Rattle.std.proofs.lemmas.Option.{same_Some}
 use Rattle.tb_core.proofs.ChangeLaws.{history-with_seen}
 
-abbrev event : Numbered → Event
+abbrev event : NumberedEvent → Event
 event x = x.event
 
-abbrev number : Numbered → Option ℕ
+abbrev number : NumberedEvent → Option ℕ
 number x = Some x.number
 
 -- the events of a command, answered just the numbers that they have
-abbrev Answers : State → List Numbered → Type 0
+abbrev Answers : State → List NumberedEvent → Type 0
 Answers w xs = run w (map event xs) ≡ map number xs
 
 run-length : (w : State) (es : List Event) → length (run w es) ≡ length es
@@ -42,7 +42,7 @@ run-length w [] = refl
 run-length w (e ∷ es) = ap suc (run-length (after w e) es)
 
 -- answers of two lists of events, one behind the other
-answers-parts : (w : State) (xs ys : List Numbered) → Answers w (xs ++ ys) → Answers w xs × Answers (after_all w (map event xs)) ys
+answers-parts : (w : State) (xs ys : List NumberedEvent) → Answers w (xs ++ ys) → Answers w xs × Answers (after_all w (map event xs)) ys
 answers-parts w xs ys answers =
     let both : run w (map event xs) ++ run (after_all w (map event xs)) (map event ys) ≡ map number xs ++ map number ys =
     sym (run-append w (map event xs) (map event ys)) ∙ ap (run w) (sym (map-append event xs ys)) ∙ answers ∙ map-append number xs ys in
@@ -98,7 +98,7 @@ answer-same cs one two t f g a b begins_one begins_two at_one at_two is also =
     let same = query-unique t is.query also.query is.is also.is in
     let docs_one : take f one ≡ cs = ap (λ n. take n one) at_one ∙ begins_one in
     let docs_two : take g two ≡ cs = ap (λ n. take n two) at_two ∙ begins_two in
-    let of = λ (q : text.Query) (ds : List Change). answer_of (two_names q.first q.second) (document_in ds q.document) in
+    let of = λ (q : text.TwoNamesQuery) (ds : List Change). answer_of (two_names q.first q.second) (document_in ds q.document) in
     ap₂ answered (at_one ∙ sym at_two) (is.answer_is ∙ ap₂ of same (docs_one ∙ sym docs_two) ∙ sym also.answer_is)
 
 -- What a command comes to is one: it has one number there, one reading, one answer and one fault.

@@ -5,7 +5,7 @@ use Rattle.tb_tree.specs.Steps.{◌>>=◌}
 use Rattle.std.specs.Str.{bytes_eq}
 use Rattle.tb_script.specs.Forms.{is_label_byte}
 use Rattle.tb_top.specs.Names.{goes_on, begins_name}
-use Rattle.tb_top.specs.QueryText.{Query}
+use Rattle.tb_top.specs.QueryText.{TwoNamesQuery}
 
 -- what stands behind the front, and what stands before the end
 abbrev pub behind : List ℕ → List ℕ → Option (List ℕ)
@@ -46,7 +46,7 @@ query_of line = do
   if bytes_eq second.1 (codes "))") then Some (document.0, first.0, second.0) else None
 
 -- the query of a text
-unfoldable pub query_in : List ℕ → Option Query
+unfoldable pub query_in : List ℕ → Option TwoNamesQuery
 query_in text = do
   line ← before (codes "\n") text
   names ← query_of line

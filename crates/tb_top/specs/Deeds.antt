@@ -8,11 +8,11 @@ use Rattle.tb_esis.specs.declared.fault.EsisFault.{EsisFault}
 use Rattle.tb_script.specs.declared.command.Command.{Command}
 use Rattle.tb_script.specs.declared.command.Command.TheVariants as command
 use Rattle.tb_flwor.specs.declared.fault.QueryFault.{QueryFault}
-use Rattle.tb_core.specs.Replay.{Numbered}
+use Rattle.tb_core.specs.Replay.{NumberedEvent}
 use Rattle.tb_core.specs.declared.event.Event.{Event}
 use Rattle.tb_core.specs.declared.event.Event.TheVariants as event
 use Rattle.tb_top.specs.Answer.{Answer, answer_of, two_names}
-use Rattle.tb_top.specs.QueryText.{Query, IsQuery}
+use Rattle.tb_top.specs.QueryText.{TwoNamesQuery, IsQuery}
 use Rattle.tb_flwor.specs.Faults.{IsFaultOf}
 use Rattle.tb_top.specs.History.{Change, count_of, document_at}
 
@@ -38,18 +38,18 @@ pub record Deed : Type 0 where
   pub command : Command
   pub result : Record
 
-abbrev pub numbered : Event → ℕ → List Numbered
+abbrev pub numbered : Event → ℕ → List NumberedEvent
 numbered e n = record { event = e; number = n } ∷ []
 
 -- the event of a command, with its number; a load or a query that is refused has none
-abbrev pub event_of : ℕ → Command → Record → List Numbered
+abbrev pub event_of : ℕ → Command → Record → List NumberedEvent
 event_of session (command.Load name lines) (loaded k tree) = numbered (event.Change session) k
 event_of session (command.Query text) (answered front answer) = numbered (event.Look session) front
 event_of session (command.Tell mark name) (told k) = numbered (event.Tell session mark) k
 event_of session (command.Hear mark name) (heard k) = numbered (event.Hear session mark) k
 event_of session _ _ = []
 
-abbrev pub events_of : List Deed → List Numbered
+abbrev pub events_of : List Deed → List NumberedEvent
 events_of ds = flat_map (λ d. event_of d.session d.command d.result) ds
 
 -- the change that a command made, behind these
@@ -69,7 +69,7 @@ history_of ds = changes_behind [] ds
 
 -- The answer of a query, whose text has no fault, over the documents of a front.
 pub record IsAnswer (history : List Change) (text : List ℕ) (front : ℕ) (answer : Answer) : Type 0 where
-  pub query : Query
+  pub query : TwoNamesQuery
   pub is : IsQuery text query
   pub faultless : IsFaultOf text None
   pub within : front ≤ length history

@@ -9,7 +9,7 @@ ghost use Rattle.tb_top.specs.Transcript.{query_block};
 
 use crate::matching::{Match, matches};
 use crate::printer::push_query_block;
-use crate::query::Query;
+use crate::query::TwoNamesQuery;
 use crate::witness::witness_lines;
 use std::alloc::{AllocError, Global};
 use tb_label::Store;
@@ -21,7 +21,7 @@ pub fn push_answer(
     number: u64,
     front: u32,
     store: Option<&Store>,
-    query: &Query<'_>,
+    query: &TwoNamesQuery<'_>,
     text: &mut Vec<u8>,
 ) -> Result<(), AllocError>
     requires first { IsTrue (is_query_name query.now.first.now) }
@@ -39,7 +39,7 @@ pub fn push_answer(
 fn found_in(
     alloc: Global,
     store: Option<&Store>,
-    query: &Query<'_>,
+    query: &TwoNamesQuery<'_>,
 ) -> Result<Vec<Match>, AllocError>
     ensures { IfOk result (λ found.
         answer_by (witness_text query.now.first.now query.now.second.now) found.items

@@ -8,7 +8,7 @@ use crate::cuts::{before, behind, label_at, name_at};
 
 /// What such a query names: a document, the elements above and those below them.
 #[derive(Clone, Copy, Debug)]
-pub struct Query<'a> {
+pub struct TwoNamesQuery<'a> {
     pub document: &'a [u8],
     pub first: &'a [u8],
     pub second: &'a [u8],
@@ -16,7 +16,7 @@ pub struct Query<'a> {
 
 /// The query of a text, or `None` where the text isn't the one line that is built.
 #[tactic(auto, unfolding(crate::specs::Cuts::query_in))]
-pub fn query_in(text: &[u8]) -> Option<Query<'_>>
+pub fn query_in(text: &[u8]) -> Option<TwoNamesQuery<'_>>
     ensures { option_map query_by result ≡ query_in text.now }
 {
     let line = before(b"\n", text)?;
@@ -24,7 +24,7 @@ pub fn query_in(text: &[u8]) -> Option<Query<'_>>
     if line.len() > 65_535 {
         return None;
     }
-    Some(Query {
+    Some(TwoNamesQuery {
         document,
         first,
         second,

@@ -26,7 +26,7 @@ returns-else-index c =
     let st = state_of c.args.self.now in
     let within = mark-within st c.args.at c.in-Hear.mark c.in-Some.turn.now c.in-Some.rest.now _ c.requires.fits c.in-Some.ensures.0 c.in-Hear.is in
     let untold = told-read st.told c.in-Hear.mark c.index.result.now false within c.index.ensures c.if-index.false in
-    on_ok _ (λ e. subst (Visits c.args.at st) (sym e) (waiting-visits st c.args.at c.in-Hear.mark c.in-Hear.name c.in-Some.turn.now c.in-Some.rest.now c.requires.fits c.in-Some.ensures.0 c.in-Hear.is untold)) c.wait.ensures
+    on_ok _ (λ e. subst (Visits c.args.at st) (sym e) (waiting-visits st c.args.at c.in-Hear.mark c.in-Hear.name c.in-Some.turn.now c.in-Some.rest.now c.requires.fits c.in-Some.ensures.0 c.in-Hear.is untold)) c.note_waiter.ensures
 
 pub returns-in_ok-go-in-Tell : goal.returns-in_ok-go-in-Tell
 returns-in_ok-go-in-Tell c =

@@ -5,7 +5,7 @@ use Rattle.std.specs.Option.{option_map}
 use Rattle.tb_tree.specs.View.{plain_of}
 use Rattle.tb_script.specs.declared.command.Command.TheVariants as command
 use Rattle.tb_top.specs.Answer.{answer_of, two_names}
-use Rattle.tb_top.specs.QueryText.{Query}
+use Rattle.tb_top.specs.QueryText.{TwoNamesQuery}
 use Rattle.tb_top.specs.History.{document_in}
 use Rattle.tb_top.specs.Deeds.{answered}
 use Rattle.tb_top.specs.Queries.{query_by}
@@ -19,7 +19,7 @@ use Rattle.tb_top.proofs.running.Running.answer.Goals as goal
 pub unreachable-requires : goal.unreachable-requires
 unreachable-requires c =
     let is = c.requires.built in
-    let d : ◌≡◌ {A = Option Query} None (Some is.0) = c.in_default.ensures ∙ query_in-text c.args.text.now is.0 is.1 in
+    let d : ◌≡◌ {A = Option TwoNamesQuery} None (Some is.0) = c.in_default.ensures ∙ query_in-text c.args.text.now is.0 is.1 in
     absurd cc
 
 pub push_answer-requires-clause-first : goal.push_answer-requires-clause-first

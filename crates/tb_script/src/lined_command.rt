@@ -4,7 +4,7 @@ use crate::Command;
 
 /// A command and the number of its line, from 1.
 #[derive(Debug, Drop)]
-pub struct Turn {
+pub struct LinedCommand {
     pub line: u32,
     pub command: Command,
 }
