@@ -1,7 +1,10 @@
 -- Runs of bytes at a front that pass a test.
-use Rattle.std.proofs.Common.{◌≡◌, ℕ, suc, ◌+◌, Bool, true, false, cond, not, List, [], ◌∷◌, ◌++◌, length, take, drop, refl, arith}
+use Rattle.std.proofs.Common.{◌≡◌, ℕ, suc, ◌+◌, ◌<◌, Bool, true, false, cond, not, List, [], ◌∷◌, ◌++◌, length, take, drop, refl, ap, ◌∙◌, arith}
 use Rattle.std.specs.List.{prefix_len, list_all}
-use Rattle.std.proofs.lemmas.Bool.{and_parts, and_from}
+use Rattle.std.proofs.lemmas.Bool.{and_parts}
+use Rattle.std.proofs.lemmas.List.{get_or-take}
+use Rattle.std.proofs.lemmas.List.Folds.{length-prefix_len}
+use Rattle.std.proofs.lemmas.List.Sums.{prefix_len_passes, list_all-from_AllPass}
 
 -- the list does not begin with what passes
 abbrev pub stops : (ℕ → Bool) → List ℕ → Bool
@@ -20,17 +23,14 @@ prefix_len-stops test (c ∷ run) rest all stop =
     let parts = and_parts (test c) (list_all test run) all in
     rw (parts.0, prefix_len-stops test run rest parts.1 stop) (omega arith)
 
-taken : (test : ℕ → Bool) (b : ℕ) (bs : List ℕ) (passes : Bool) → test b ≡ passes → list_all test (take (prefix_len test bs) bs) ≡ true
-    → list_all test (take (cond passes (1 + prefix_len test bs) 0) (b ∷ bs)) ≡ true
-taken test b bs true e all =
-    let more : 1 + prefix_len test bs ≡ suc (prefix_len test bs) = omega arith in
-    rw more (and_from (test b) (list_all test (take (prefix_len test bs) bs)) e all)
-taken test b bs false e all = refl
-
 -- all of the run passes
 pub take-prefix_len : (test : ℕ → Bool) (bytes : List ℕ) → list_all test (take (prefix_len test bytes) bytes) ≡ true
-take-prefix_len test [] = refl
-take-prefix_len test (b ∷ bs) = taken test b bs (test b) refl (take-prefix_len test bs)
+take-prefix_len test bytes =
+    let n = prefix_len test bytes in
+    list_all-from_AllPass test (take n bytes)
+    (λ k d within.
+    let here : k < n = omega (arith, within, length-prefix_len test bytes) in
+    ap test (get_or-take n bytes k d here) ∙ prefix_len_passes test bytes k d here)
 
 left : (test : ℕ → Bool) (b : ℕ) (bs : List ℕ) (passes : Bool) → test b ≡ passes → stops test (drop (prefix_len test bs) bs) ≡ true
     → stops test (drop (cond passes (1 + prefix_len test bs) 0) (b ∷ bs)) ≡ true
