@@ -126,39 +126,38 @@ fn everywhere(alloc: Global) -> Result<Query, AllocError> {
     }))
 }
 
-// The names, with a byte `;` behind each.
-fn names_of(alloc: Global, query: &Query) -> Result<Vec<u8>, AllocError> {
-    let mut text = Vec::new(alloc);
+// `MATCH document("m")`
+fn alone(alloc: Global) -> Result<Query, AllocError> {
+    Ok(Query::Match(Pattern {
+        document: bytes(alloc, b"m")?,
+        edges: none(alloc),
+    }))
+}
+
+// A line of the names, with a byte `;` behind each.
+fn push_names(alloc: Global, query: &Query, text: &mut Vec<u8>) -> Result<(), AllocError> {
     for name in documents(alloc, query)?.as_slice() {
         text.extend_from_slice(name.as_slice())?;
         text.push(b';')?;
     }
+    text.push(b'\n')?;
+    Ok(())
+}
+
+fn names_of_all(alloc: Global) -> Result<Vec<u8>, AllocError> {
+    let mut text = Vec::new(alloc);
+    push_names(alloc, &join(alloc)?, &mut text)?;
+    push_names(alloc, &everywhere(alloc)?, &mut text)?;
+    push_names(alloc, &alone(alloc)?, &mut text)?;
     Ok(text)
 }
 
 #[test]
-fn a_join_names_both_documents(rt: HostRuntime) -> Result<(), Fail> {
-    let query = join(rt.alloc())?;
-    let names = names_of(rt.alloc(), &query)?;
-    assert_eq!(rt; names.as_slice(), b"p;q;".as_slice());
-    Ok(())
-}
-
-#[test]
 fn each_name_is_given_once_at_its_first_place(rt: HostRuntime) -> Result<(), Fail> {
-    let query = everywhere(rt.alloc())?;
-    let names = names_of(rt.alloc(), &query)?;
-    assert_eq!(rt; names.as_slice(), b"b;a;c;d;e;f;g;h;".as_slice());
-    Ok(())
-}
-
-#[test]
-fn a_match_names_its_document(rt: HostRuntime) -> Result<(), Fail> {
-    let query = Query::Match(Pattern {
-        document: bytes(rt.alloc(), b"m")?,
-        edges: none(rt.alloc()),
-    });
-    let names = names_of(rt.alloc(), &query)?;
-    assert_eq!(rt; names.as_slice(), b"m;".as_slice());
+    let names = names_of_all(rt.alloc())?;
+    assert_eq!(rt;
+        names.as_slice(),
+        b"p;q;\nb;a;c;d;e;f;g;h;\nm;\n".as_slice()
+    );
     Ok(())
 }
