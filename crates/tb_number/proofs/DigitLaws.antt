@@ -9,7 +9,7 @@ use Rattle.std.proofs.lemmas.Bool.{and_parts, and_from}
 use Rattle.std.proofs.lemmas.Bool.Decides.{nat_tests}
 use Rattle.tb_number.specs.IntText.{is_digit, with_digit, number_of}
 use Rattle.tb_number.specs.Reduced.{is_zero, is_reduced, without_zeros, keeps_minus, digits_cmp}
-use Rattle.tb_number.proofs.Fronts.{stops, drop-prefix_len}
+use Rattle.tb_number.proofs.Prefixes.{stops, drop-prefix_len}
 
 -- a digit is from 48 to 57
 pub record IsDigit (b : ℕ) : Type 0 where

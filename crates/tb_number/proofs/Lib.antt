@@ -1,4 +1,4 @@
-pub mod Fronts
+pub mod Prefixes
 pub mod ReadingLaws
 pub mod DigitLaws
 pub mod CanonicalLaws

@@ -9,12 +9,12 @@ use Rattle.std.proofs.lemmas.Cmp.{tied_itself, int_cmp_total}
 use Rattle.std.proofs.lemmas.Bool.Decides.{Decides-eqb, Decides-and, Decides-like, same_from_decides}
 use Rattle.std.proofs.lemmas.Slice.Eq.{bytes_eq-Decides}
 use Rattle.tb_number.specs.IntText.{is_digit, number_of, signed}
-use Rattle.tb_number.specs.Reading.{integer_of, without_blanks, begins_with_minus, without_sign, digits_front}
+use Rattle.tb_number.specs.Reading.{integer_of, without_blanks, begins_with_minus, without_sign, leading_digits}
 use Rattle.tb_number.specs.Reduced.{is_reduced, without_zeros, keeps_minus, digits_cmp}
 use Rattle.tb_number.specs.Values.{AreEqual}
 use Rattle.tb_number.specs.Keys.{SortedAs, sorted_as, value_sorted_as, key_cmp, is_same_key, AreEqualKeys}
 use Rattle.tb_number.specs.KeyParts.{KeyParts, same_parts, value_parts, text_parts, parts_of}
-use Rattle.tb_number.proofs.ReadingLaws.{with_sign, integer_of-text, front-parts, stands-integer_of}
+use Rattle.tb_number.proofs.ReadingLaws.{with_sign, integer_of-text, prefix-parts, stands-integer_of}
 use Rattle.tb_number.proofs.DigitLaws.{reduced-without_zeros}
 use Rattle.tb_number.proofs.SignLaws.{signed_digits_cmp, signed_digits_cmp-is, signed-without_zeros}
 use Rattle.tb_number.proofs.ValueLaws.{bytes_cmp-Equal}
@@ -46,8 +46,8 @@ spelled-by minus bytes (Some digits) number all is =
 spelled : (bytes : List ℕ) (number : ℤ) → integer_of bytes ≡ Some number → Spell (text_parts bytes) number
 spelled bytes number is =
     let text = without_blanks bytes in
-    spelled-by (begins_with_minus text) bytes (digits_front (without_sign text)) number
-    (λ digits found. (front-parts (without_sign text) digits found).all_digits)
+    spelled-by (begins_with_minus text) bytes (leading_digits (without_sign text)) number
+    (λ digits found. (prefix-parts (without_sign text) digits found).all_digits)
     (sym (integer_of-text bytes) ∙ is)
 
 unspelled-by : (minus : Bool) (bytes : List ℕ) (found : Option (List ℕ)) → with_sign minus found ≡ None → value_parts minus bytes found ≡ record { kind = 3; bytes = bytes }
@@ -58,7 +58,7 @@ unspelled-by minus bytes (Some digits) is = absurd (let d : ◌≡◌ {A = Optio
 unspelled : (bytes : List ℕ) → integer_of bytes ≡ None → text_parts bytes ≡ record { kind = 3; bytes = bytes }
 unspelled bytes is =
     let text = without_blanks bytes in
-    unspelled-by (begins_with_minus text) bytes (digits_front (without_sign text)) (sym (integer_of-text bytes) ∙ is)
+    unspelled-by (begins_with_minus text) bytes (leading_digits (without_sign text)) (sym (integer_of-text bytes) ∙ is)
 
 digits_cmp-Equal : (xs ys : List ℕ) → digits_cmp xs ys ≡ Equal → xs ≡ ys
 digits_cmp-Equal xs ys tied = bytes_cmp-Equal xs ys (then-Equal (nat_cmp (length xs) (length ys)) (slice_cmp nat_cmp xs ys) tied).1

@@ -9,8 +9,8 @@ use Rattle.std.proofs.lemmas.Bool.Decides.{nat_tests}
 use Rattle.std.proofs.lemmas.Option.{cond_some}
 use Rattle.std.proofs.lemmas.List.{length-take-le}
 use Rattle.tb_number.specs.IntText.{is_blank, is_digit, number_of, signed, Sign, none, plus, minus, sign_text, is_minus, StandsFor, IsIntText, Reads}
-use Rattle.tb_number.specs.Reading.{integer_of, without_blanks, without_sign, begins_with_minus, digits_front}
-use Rattle.tb_number.proofs.Fronts.{stops, prefix_len-stops, take-prefix_len}
+use Rattle.tb_number.specs.Reading.{integer_of, without_blanks, without_sign, begins_with_minus, leading_digits}
+use Rattle.tb_number.proofs.Prefixes.{stops, prefix_len-stops, take-prefix_len}
 
 digit-no_blank : (b : ℕ) → is_digit b ≡ true → not (is_blank b) ≡ true
 digit-no_blank b is = grind (arith, nat_tests)
@@ -29,8 +29,8 @@ blanks-stop [] all = refl
 blanks-stop (b ∷ behind) all = blank-no_digit b (and_parts (is_blank b) (list_all is_blank behind) all).0
 
 -- digits with blanks behind them
-digits_front-whole : (digits behind : List ℕ) → 0 < length digits → list_all is_digit digits ≡ true → list_all is_blank behind ≡ true → digits_front (digits ++ behind) ≡ Some digits
-digits_front-whole digits behind some all blank =
+leading_digits-whole : (digits behind : List ℕ) → 0 < length digits → list_all is_digit digits ≡ true → list_all is_blank behind ≡ true → leading_digits (digits ++ behind) ≡ Some digits
+leading_digits-whole digits behind some all blank =
     let first : nat_lt 0 (length digits) ≡ true = grind (arith, nat_tests) in
     rw (prefix_len-stops is_digit digits behind all (blanks-stop behind blank), drop-append_seam digits behind, blank, first, take-append_seam digits behind) refl
 
@@ -59,7 +59,7 @@ abbrev pub with_sign : Bool → Option (List ℕ) → Option ℤ
 with_sign sign digits = option_map (λ ds. signed sign (number_of ds)) digits
 
 abbrev pub of_text : List ℕ → Option ℤ
-of_text text = with_sign (begins_with_minus text) (digits_front (without_sign text))
+of_text text = with_sign (begins_with_minus text) (leading_digits (without_sign text))
 
 pub integer_of-text : (bytes : List ℕ) → integer_of bytes ≡ of_text (without_blanks bytes)
 unfolding integer_of
@@ -74,9 +74,9 @@ integer_of-parts before sign (d ∷ ds) behind blank some all blanks =
     let text = sign_text sign ++ d ∷ rest in
     integer_of-text (before ++ text)
     ∙ ap of_text (without_blanks-whole before text blank (signed-stops d rest digit sign))
-    ∙ ap (λ r. with_sign (begins_with_minus text) (digits_front r)) (without_sign-whole d rest digit sign)
-    ∙ ap (λ m. with_sign m (digits_front (d ∷ rest))) (begins_with_minus-whole d rest digit sign)
-    ∙ ap (with_sign (is_minus sign)) (digits_front-whole (d ∷ ds) behind some all blanks)
+    ∙ ap (λ r. with_sign (begins_with_minus text) (leading_digits r)) (without_sign-whole d rest digit sign)
+    ∙ ap (λ m. with_sign m (leading_digits (d ∷ rest))) (begins_with_minus-whole d rest digit sign)
+    ∙ ap (with_sign (is_minus sign)) (leading_digits-whole (d ∷ ds) behind some all blanks)
 
 -- The number that bytes stand for is the one that `integer_of` gives.
 pub stands-integer_of : (bytes : List ℕ) (number : ℤ) → StandsFor bytes number → integer_of bytes ≡ Some number
@@ -89,15 +89,15 @@ mapped : {A B : Type 0} (f : A → B) (o : Option A) (y : B) → option_map f o 
 mapped f None y e = absurd (let d : ◌≡◌ {A = Option _} None (Some y) = e in cc)
 mapped f (Some x) y e = (x, refl, let d : ◌≡◌ {A = Option _} (Some (f x)) (Some y) = e in cc)
 
-pub record FrontParts (bytes digits : List ℕ) : Type 0 where
+pub record PrefixParts (bytes digits : List ℕ) : Type 0 where
   pub behind : List ℕ
   pub whole : bytes ≡ digits ++ behind
   pub some_digit : 0 < length digits
   pub all_digits : list_all is_digit digits ≡ true
   pub blank_behind : list_all is_blank behind ≡ true
 
-pub front-parts : (bytes digits : List ℕ) → digits_front bytes ≡ Some digits → FrontParts bytes digits
-front-parts bytes digits e =
+pub prefix-parts : (bytes digits : List ℕ) → leading_digits bytes ≡ Some digits → PrefixParts bytes digits
+prefix-parts bytes digits e =
     let len = prefix_len is_digit bytes in
     let found = cond_some (nat_lt 0 len && list_all is_blank (drop len bytes)) (take len bytes) digits e in
     let parts = and_parts (nat_lt 0 len) (list_all is_blank (drop len bytes)) found.0 in
@@ -133,20 +133,20 @@ sign-parts (b ∷ bs) = sign-by (b == 43) (b == 45) b bs refl refl
 pub integer_of-stands : (bytes : List ℕ) (number : ℤ) → integer_of bytes ≡ Some number → StandsFor bytes number
 integer_of-stands bytes number e =
     let text = without_blanks bytes in
-    let found = mapped (λ ds. signed (begins_with_minus text) (number_of ds)) (digits_front (without_sign text)) number (sym (integer_of-text bytes) ∙ e) in
-    let front = front-parts (without_sign text) found.0 found.1 in
+    let found = mapped (λ ds. signed (begins_with_minus text) (number_of ds)) (leading_digits (without_sign text)) number (sym (integer_of-text bytes) ∙ e) in
+    let prefix = prefix-parts (without_sign text) found.0 found.1 in
     let signs = sign-parts text in
     let len = prefix_len is_blank bytes in
     record {
       before = take len bytes;
       sign = signs.sign;
       digits = found.0;
-      behind = front.behind;
-      whole = sym (take-append-drop len bytes) ∙ ap (λ t. take len bytes ++ t) (signs.whole ∙ ap (λ r. sign_text signs.sign ++ r) front.whole);
+      behind = prefix.behind;
+      whole = sym (take-append-drop len bytes) ∙ ap (λ t. take len bytes ++ t) (signs.whole ∙ ap (λ r. sign_text signs.sign ++ r) prefix.whole);
       blank_before = take-prefix_len is_blank bytes;
-      some_digit = front.some_digit;
-      all_digits = front.all_digits;
-      blank_behind = front.blank_behind;
+      some_digit = prefix.some_digit;
+      all_digits = prefix.all_digits;
+      blank_behind = prefix.blank_behind;
       number_is = sym found.2 ∙ ap (λ m. signed m (number_of found.0)) signs.is;
     }
 

@@ -2,7 +2,7 @@
 -- keys have the same parts.
 use Rattle.std.specs.Prelude.{ℕ, Bool, ◌&&◌, ◌==◌, if◌then◌else◌, List, [], Option, Some, None}
 use Rattle.std.specs.Str.{bytes_eq}
-use Rattle.tb_number.specs.Reading.{without_blanks, begins_with_minus, without_sign, digits_front}
+use Rattle.tb_number.specs.Reading.{without_blanks, begins_with_minus, without_sign, leading_digits}
 use Rattle.tb_number.specs.Reduced.{without_zeros, keeps_minus}
 
 pub record KeyParts : Type 0 where
@@ -30,7 +30,7 @@ value_parts minus bytes (Some digits) =
 abbrev pub text_parts : List ℕ → KeyParts
 text_parts bytes =
     let text = without_blanks bytes in
-    value_parts (begins_with_minus text) bytes (digits_front (without_sign text))
+    value_parts (begins_with_minus text) bytes (leading_digits (without_sign text))
 
 -- the parts of a key
 abbrev pub parts_of : Option (List ℕ) → KeyParts

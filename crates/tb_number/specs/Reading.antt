@@ -16,9 +16,9 @@ abbrev pub without_sign : List ℕ → List ℕ
 without_sign [] = []
 without_sign (b ∷ bs) = if b == 43 || b == 45 then bs else b ∷ bs
 
--- the digits at the front; none where there is no digit, or another byte than a blank behind them
-abbrev pub digits_front : List ℕ → Option (List ℕ)
-digits_front bytes =
+-- the digits at the start; none where there is no digit, or another byte than a blank behind them
+abbrev pub leading_digits : List ℕ → Option (List ℕ)
+leading_digits bytes =
     let len = prefix_len is_digit bytes in
     if nat_lt 0 len && list_all is_blank (drop len bytes) then Some (take len bytes) else None
 
@@ -27,4 +27,4 @@ unfoldable pub integer_of : List ℕ → Option ℤ
 integer_of bytes =
     let text = without_blanks bytes in
     option_map (λ digits. signed (begins_with_minus text) (number_of digits))
-    (digits_front (without_sign text))
+    (leading_digits (without_sign text))

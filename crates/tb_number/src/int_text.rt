@@ -10,7 +10,7 @@ ghost use Rattle.tb_number.specs.Range.{within_range};
 
 use crate::digits::{compare_digits, small_number};
 use crate::spelling::{
-    begins_with_minus, digits_front, keeps_minus, without_blanks, without_sign, without_zeros,
+    begins_with_minus, keeps_minus, leading_digits, without_blanks, without_sign, without_zeros,
 };
 use std::alloc::{AllocError, Global};
 use std::cmp::Ordering;
@@ -43,7 +43,7 @@ impl<'a> IntText<'a> {
         ensures reads { Reads bytes.now result }
     {
         let text = without_blanks(bytes);
-        let digits = digits_front(without_sign(text))?;
+        let digits = leading_digits(without_sign(text))?;
         Some(IntText::of(begins_with_minus(text), digits))
     }
 

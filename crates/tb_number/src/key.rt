@@ -10,7 +10,7 @@ ghost use Rattle.tb_number.specs.Keys.{is_same_key};
 ghost use Rattle.tb_number.specs.KeyParts.{parts_of, text_parts, same_parts, number_kind};
 
 use crate::spelling::{
-    begins_with_minus, digits_front, keeps_minus, without_blanks, without_sign, without_zeros,
+    begins_with_minus, keeps_minus, leading_digits, without_blanks, without_sign, without_zeros,
 };
 use std::hash::{Hash, Hasher};
 use std::marker::Model;
@@ -85,7 +85,7 @@ impl<'a> Key<'a> {
         ensures { result ≡ text_parts bytes.now }
     {
         let text = without_blanks(bytes);
-        let Some(digits) = digits_front(without_sign(text)) else {
+        let Some(digits) = leading_digits(without_sign(text)) else {
             return Key {
                 kind: NO_NUMBER,
                 bytes,

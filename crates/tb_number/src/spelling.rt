@@ -5,7 +5,7 @@ ghost use Rattle.std.specs.List.{prefix_len, list_all};
 ghost use Rattle.std.specs.Option.{option_map};
 ghost use Rattle.tb_number.specs.IntText.{is_blank, is_digit};
 ghost use Rattle.tb_number.specs.Reading.{without_blanks, begins_with_minus, without_sign};
-ghost use Rattle.tb_number.specs.Reading.{digits_front};
+ghost use Rattle.tb_number.specs.Reading.{leading_digits};
 ghost use Rattle.tb_number.specs.Reduced.{without_zeros, keeps_minus};
 
 /// The bytes from the first one on that is no blank.
@@ -40,9 +40,9 @@ pub fn without_sign(bytes: &[u8]) -> &[u8]
     }
 }
 
-/// The digits at the front, where there is one and only blanks are behind them.
-pub fn digits_front(bytes: &[u8]) -> Option<&[u8]>
-    ensures front { option_map (λ digits. digits.now) result ≡ digits_front bytes.now }
+/// The digits at the start, where there is one and only blanks are behind them.
+pub fn leading_digits(bytes: &[u8]) -> Option<&[u8]>
+    ensures prefix { option_map (λ digits. digits.now) result ≡ leading_digits bytes.now }
     ensures digits { IfSome result (λ digits. IsTrue (list_all is_digit digits.now)) }
 {
     let len = digits_len(bytes);
@@ -71,7 +71,7 @@ pub fn keeps_minus(minus: bool, digits: &[u8]) -> bool
     minus && !digits.is_empty()
 }
 
-/// How many digits stand at the front.
+/// How many digits stand at the start.
 fn digits_len(bytes: &[u8]) -> usize
     ensures len { result ≡ prefix_len is_digit bytes.now }
     ensures within { result ≤ length bytes.now }
