@@ -15,25 +15,25 @@ use tb_query::Query;
 /// A query that opens one thing many times, and closes it, or not.
 #[derive(Clone, Copy)]
 struct Shape {
-    front: &'static str,
+    prefix: &'static str,
     opening: &'static str,
     closing: &'static str,
 }
 
 const PATTERN: Shape = Shape {
-    front: "MATCH document('d') ",
+    prefix: "MATCH document('d') ",
     opening: "(/-a",
     closing: ")",
 };
 
 const CONSTRUCTOR: Shape = Shape {
-    front: "FOR $x IN document('d')//a RETURN ",
+    prefix: "FOR $x IN document('d')//a RETURN ",
     opening: "<a>",
     closing: "</a>",
 };
 
 const PATH: Shape = Shape {
-    front: "FOR $x IN document('d')//a RETURN $x",
+    prefix: "FOR $x IN document('d')//a RETURN $x",
     opening: "/a",
     closing: "",
 };
@@ -82,7 +82,7 @@ fn nested(
     closed: usize,
 ) -> Result<Vec<u8>, AllocError> {
     let mut text = Vec::new(alloc);
-    text.extend_from_slice(shape.front.as_bytes())?;
+    text.extend_from_slice(shape.prefix.as_bytes())?;
     for _turn in 0..opened {
         text.extend_from_slice(shape.opening.as_bytes())?;
     }

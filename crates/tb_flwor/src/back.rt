@@ -1,4 +1,4 @@
-//! What a query returns, at the front of its tokens. Constructors inside each other are calls inside
+//! What a query returns, at the beginning of its tokens. Constructors inside each other are calls inside
 //! each other, and in a query without fault they have at most 32 levels.
 
 ghost use Rattle.std.specs.Prelude.{◌≡◌, ◌-◌, ◌≤◌, IfOk, length};
@@ -13,7 +13,7 @@ use crate::names::Names;
 use crate::operand::content;
 use crate::path::path;
 use std::alloc::{AllocError, Global};
-use tb_pattern::front::{begins, begins_name, behind, bytes};
+use tb_pattern::prefix::{begins, begins_name, behind, bytes};
 use tb_query::{AttrPart, Back, Cons, Part};
 use tb_token::Lexeme;
 use tb_token::letters::{DOCUMENT, LESS, OPEN_BRACE, QUOTED, SELF_CLOSE, VARIABLE};

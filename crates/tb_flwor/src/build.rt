@@ -1,4 +1,4 @@
-//! The query that tokens without fault ask for, built from the front on.
+//! The query that tokens without fault ask for, built from the beginning on.
 
 ghost use Rattle.std.specs.Prelude.{◌≡◌, IfOk};
 ghost use Rattle.tb_pattern.specs.Building.{Builds};
@@ -11,7 +11,7 @@ use crate::conds::conds;
 use crate::names::Names;
 use crate::order::{group, keys};
 use std::alloc::{AllocError, Global};
-use tb_pattern::front::behind;
+use tb_pattern::prefix::behind;
 use tb_query::Flwor;
 use tb_token::Lexeme;
 

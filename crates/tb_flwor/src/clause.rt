@@ -1,4 +1,4 @@
-//! The clauses at the front of tokens that are a query.
+//! The clauses at the beginning of tokens that are a query.
 
 ghost use Rattle.std.specs.Prelude.{◌-◌, ◌≤◌, IfOk, length};
 ghost use Rattle.tb_token.specs.grammar.Grammar.{maybe};
@@ -11,7 +11,7 @@ ghost use Rattle.tb_flwor.specs.Value.{bind_from, clause_from};
 use crate::names::Names;
 use crate::path::longpath;
 use std::alloc::{AllocError, Global};
-use tb_pattern::front::{begins, behind, bytes};
+use tb_pattern::prefix::{begins, behind, bytes};
 use tb_query::Clause;
 use tb_token::Lexeme;
 use tb_token::letters::{ALLOWING, COMMA, FOR, LET};

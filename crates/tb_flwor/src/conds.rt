@@ -1,4 +1,4 @@
-//! The conditions of a query at the front of its tokens.
+//! The conditions of a query at the beginning of its tokens.
 
 ghost use Rattle.std.specs.Prelude.{◌≡◌, ◌-◌, ◌≤◌, IfOk, length};
 ghost use Rattle.tb_token.specs.grammar.Grammar.{either, maybe};
@@ -13,7 +13,7 @@ use crate::names::Names;
 use crate::operand::operand;
 use std::alloc::{AllocError, Global};
 use tb_pattern::conds::literal;
-use tb_pattern::front::{begins, behind, op};
+use tb_pattern::prefix::{begins, behind, op};
 use tb_query::{Comparison, Right};
 use tb_token::Lexeme;
 use tb_token::letters::{AND, COUNT, DOCUMENT, MAX, MIN, SUM, VARIABLE, WHERE};

@@ -1,4 +1,4 @@
-//! The operand at the front of tokens that are a query.
+//! The operand at the beginning of tokens that are a query.
 
 ghost use Rattle.std.specs.Prelude.{◌≡◌, ◌-◌, ◌≤◌, IfOk, length};
 ghost use Rattle.tb_token.specs.grammar.Grammar.{either};
@@ -13,7 +13,7 @@ use crate::names::Names;
 use crate::path::path;
 use std::alloc::{AllocError, Global};
 use tb_number::AggKind;
-use tb_pattern::front::{begins, behind, quoted};
+use tb_pattern::prefix::{begins, behind, quoted};
 use tb_query::{Content, Operand};
 use tb_token::Lexeme;
 use tb_token::letters::{DOCUMENT, MAX, MIN, QUOTED, SUM, VARIABLE};

@@ -1,4 +1,4 @@
-//! How a query groups and orders, at the front of its tokens.
+//! How a query groups and orders, at the beginning of its tokens.
 
 ghost use Rattle.std.specs.Prelude.{◌≡◌, ◌-◌, ◌≤◌, IfOk, length};
 ghost use Rattle.tb_token.specs.grammar.Grammar.{maybe};
@@ -11,7 +11,7 @@ use crate::names::Names;
 use crate::operand::operand;
 use crate::path::path;
 use std::alloc::{AllocError, Global};
-use tb_pattern::front::{begins, behind, bytes};
+use tb_pattern::prefix::{begins, behind, bytes};
 use tb_query::{GroupBy, Key};
 use tb_token::Lexeme;
 use tb_token::letters::{ASCENDING, COMMA, DESCENDING, GROUP, ORDER};

@@ -1,4 +1,4 @@
-//! The path at the front of tokens that are a query.
+//! The path at the beginning of tokens that are a query.
 
 ghost use Rattle.std.specs.Prelude.{◌≡◌, ◌-◌, ◌≤◌, IfOk, length};
 ghost use Rattle.tb_token.specs.grammar.Grammar.{either, many};
@@ -11,8 +11,8 @@ ghost use Rattle.tb_flwor.specs.Value.{step_from};
 
 use crate::names::Names;
 use std::alloc::{AllocError, Global};
-use tb_pattern::front::{axis, begins, behind, bytes, quoted};
 use tb_pattern::node_test::test;
+use tb_pattern::prefix::{axis, begins, behind, bytes, quoted};
 use tb_query::{Path, Start, Step};
 use tb_token::Lexeme;
 use tb_token::letters::{DOCUMENT, DOUBLE_SLASH, SLASH};

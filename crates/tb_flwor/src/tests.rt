@@ -62,16 +62,16 @@ fn the_first_wrong_token_is_told(rt: HostRuntime) -> Result<(), Fail> {
     Ok(())
 }
 
-// The front, so many times the middle, and the back.
+// The prefix, so many times the middle, and the back.
 fn repeated(
     alloc: Global,
-    front: &[u8],
+    prefix: &[u8],
     middle: &[u8],
     times: usize,
     back: &[u8],
 ) -> Result<Vec<u8>, AllocError> {
     let mut text = Vec::new(alloc);
-    text.extend_from_slice(front)?;
+    text.extend_from_slice(prefix)?;
     for _turn in 0..times {
         text.extend_from_slice(middle)?;
     }
@@ -81,14 +81,14 @@ fn repeated(
 
 #[test]
 fn long_and_deep_texts_are_read(rt: HostRuntime) -> Result<(), Fail> {
-    let front = b"FOR $x IN document('d')//x RETURN ";
+    let prefix = b"FOR $x IN document('d')//x RETURN ";
     let rows: [(&[u8], &[u8], usize, &[u8], u32); 3] = [
-        (front, b"<a>", 21_000, b"", 63_011),
+        (prefix, b"<a>", 21_000, b"", 63_011),
         (b"FOR $x IN document('d')", b"/a", 32_000, b" RETURN $x", 0),
         (b"MATCH document('d') ", b"(/-a", 16_000, b"", 64_006),
     ];
-    for (front, middle, times, back, wanted) in rows {
-        let text = repeated(rt.alloc(), front, middle, times, back).map_err(|_fault| "memory")?;
+    for (prefix, middle, times, back, wanted) in rows {
+        let text = repeated(rt.alloc(), prefix, middle, times, back).map_err(|_fault| "memory")?;
         let wrong = wrong_in(rt.alloc(), text.as_slice()).map_err(|_fault| "memory")?;
         assert_eq!(rt; wrong, wanted);
     }

@@ -46,7 +46,7 @@ wrong-letter c t u ps h e =
     let stuck : after rules (one c ∷ ps) t.letter ≡ None = rw h refl in
     some-none (sym (ap (λ o. read rules u o) stuck) ∙ e)
 
--- a token stands at the front where one must, and its letter is among these
+-- a token stands at the beginning where one must, and its letter is among these
 pub one-builds : (c : List ℕ) (s : List Tok) → Builds (one c) (λ v. v ≡ next s) s (drop 1 s)
 one-builds c [] ps minus come = some-none come.parts
 one-builds c (t ∷ u) ps minus come = by (has c t.letter) refl

@@ -1,4 +1,4 @@
--- What the program builds of a query without fault, from the front of its tokens on.
+-- What the program builds of a query without fault, from the beginning of its tokens on.
 use Rattle.std.specs.Prelude.{◌≡◌, ℕ, Bool, false, List, [], ◌∷◌, Some, None}
 use Rattle.tb_token.specs.grammar.Grammar.{Tok, Part, has}
 use Rattle.tb_token.specs.grammar.Words.{Tree, leaf, nothing, Derives}
@@ -27,7 +27,7 @@ pub record Come (minus : Bool) (ps : List Part) (s : List Tok) : Type 0 where
   pub digits : HaveDigits s
   pub numbers : past_behind minus s ≡ None
 
--- the part stands at the front, its tree is such a one, and the other parts come next
+-- the part stands at the beginning, its tree is such a one, and the other parts come next
 pub record IsBuilt (p : Part) (Is : Tree → Type 0) (ps : List Part) (s left : List Tok)
     : Type 0 where
   pub minus : Bool

@@ -1,4 +1,4 @@
-//! The pattern of tokens that are a query without fault, built from the front on. Lists of edges
+//! The pattern of tokens that are a query without fault, built from the beginning on. Lists of edges
 //! inside each other are calls inside each other, and a query without fault has at most 32 of them.
 
 ghost use Rattle.std.specs.Prelude.{◌≡◌, ◌≤◌, IfOk, OnOk, length};
@@ -10,8 +10,8 @@ ghost use Rattle.tb_pattern.specs.BuiltParts.{Asks, bang};
 ghost use Rattle.tb_pattern.specs.BuiltParts.{AreEdges, AreBelow, IsEdge, IsWhole};
 
 use crate::conds::conds;
-use crate::front::{axis, begins, behind, mark, quoted};
 use crate::node_test::test;
+use crate::prefix::{axis, begins, behind, mark, quoted};
 use crate::{Edge, PNode, Pattern};
 use std::alloc::{AllocError, Global};
 use tb_token::Lexeme;

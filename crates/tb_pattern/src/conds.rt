@@ -1,4 +1,4 @@
-//! The conditions at the front of tokens that are a query.
+//! The conditions at the beginning of tokens that are a query.
 
 ghost use Rattle.std.specs.Prelude.{◌≡◌, ◌≤◌, IfOk, length};
 ghost use Rattle.tb_token.specs.grammar.Grammar.{maybe};
@@ -8,8 +8,8 @@ ghost use Rattle.tb_pattern.specs.BuiltParts.{number_or_zero, one_cond};
 ghost use Rattle.tb_pattern.specs.Value.{bytes_in};
 ghost use Rattle.tb_token.specs.grammar.Patterns as part;
 
-use crate::front::{begins, behind, bytes, op, quoted};
 use crate::limits::literal_in;
+use crate::prefix::{begins, behind, bytes, op, quoted};
 use crate::{Cond, Literal};
 use std::alloc::{AllocError, Global};
 use tb_token::Lexeme;

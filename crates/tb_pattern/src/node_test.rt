@@ -1,4 +1,4 @@
-//! The test at the front of tokens that are a query.
+//! The test at the beginning of tokens that are a query.
 
 ghost use Rattle.std.specs.Prelude.{◌≡◌, ◌≤◌, IfOk, length};
 ghost use Rattle.tb_pattern.specs.Building.{Builds, next};
@@ -6,7 +6,7 @@ ghost use Rattle.tb_pattern.specs.BuiltParts.{IsTest, IsAttribute, attribute};
 ghost use Rattle.tb_pattern.specs.Value.{bytes_in};
 ghost use Rattle.tb_token.specs.grammar.Patterns as part;
 
-use crate::front::{begins, begins_name, behind, bytes};
+use crate::prefix::{begins, begins_name, behind, bytes};
 use std::alloc::{AllocError, Global};
 use tb_token::Lexeme;
 use tb_token::letters::{AT, STAR};

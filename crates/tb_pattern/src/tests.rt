@@ -15,16 +15,16 @@ fn read(alloc: Global, text: &[u8]) -> Result<Pattern, PatternFault> {
     read_pattern(alloc, text, found.as_slice())
 }
 
-// The front, so many times the middle, and the back.
+// The prefix, so many times the middle, and the back.
 fn repeated(
     alloc: Global,
-    front: &[u8],
+    prefix: &[u8],
     middle: &[u8],
     times: usize,
     back: &[u8],
 ) -> Result<Vec<u8>, AllocError> {
     let mut text = Vec::new(alloc);
-    text.extend_from_slice(front)?;
+    text.extend_from_slice(prefix)?;
     for _turn in 0..times {
         text.extend_from_slice(middle)?;
     }
@@ -63,7 +63,7 @@ fn the_first_fault_is_told(rt: HostRuntime) -> Result<(), Fail> {
 
 #[test]
 fn wide_and_deep_queries_are_refused(rt: HostRuntime) -> Result<(), Fail> {
-    let front = b"MATCH document('d') (/-a";
+    let prefix = b"MATCH document('d') (/-a";
     let rows: [(&[u8], usize, &[u8], Option<PatternFault>); 6] = [
         (b",/-a", 63, b")", None),
         (b",/-a", 64, b")", Some(TooManyNodes)),
@@ -83,12 +83,12 @@ fn wide_and_deep_queries_are_refused(rt: HostRuntime) -> Result<(), Fail> {
         ),
     ];
     for (middle, times, back, wanted) in rows {
-        let text = repeated(rt.alloc(), front, middle, times, back).map_err(|_fault| "memory")?;
+        let text = repeated(rt.alloc(), prefix, middle, times, back).map_err(|_fault| "memory")?;
         assert_eq!(rt; read(rt.alloc(), text.as_slice()).err(), wanted);
     }
     for (times, wanted) in [(31, None), (32, Some(TooNested))] {
         let closed = repeated(rt.alloc(), b")", b")", times, b"").map_err(|_fault| "memory")?;
-        let deep = repeated(rt.alloc(), front, b"(/-a", times, closed.as_slice());
+        let deep = repeated(rt.alloc(), prefix, b"(/-a", times, closed.as_slice());
         let deep = deep.map_err(|_fault| "memory")?;
         assert_eq!(rt; read(rt.alloc(), deep.as_slice()).err(), wanted);
     }

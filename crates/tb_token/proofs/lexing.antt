@@ -3,7 +3,7 @@ pub mod LexemeLaws
 pub mod KindLaws
 pub mod SizeLaws
 pub mod SignLaws
-pub mod FrontLaws
+pub mod PrefixLaws
 pub mod CutLaws
 pub mod DigitLaws
 pub mod PlaceLaws

@@ -8,5 +8,5 @@ pub mod Calls
 pub mod Letters
 pub mod LetterNames
 pub mod Nesting
-pub mod Fronts
+pub mod Prefixes
 pub mod Places

@@ -3,11 +3,11 @@
 mod bytes;
 pub mod cut;
 pub mod fault;
-mod front;
 mod letter;
 pub mod letters;
 pub mod lexeme;
 mod names;
 pub mod nesting;
+mod prefix;
 mod signs;
 pub mod token;

@@ -8,29 +8,29 @@ use std::test::Fail;
 
 const RETURN: &[u8] = b"FOR $x IN document('d')//x RETURN ";
 
-// The front, so many times the middle, so many times the back, and the end.
+// The prefix, so many times the middle, so many times the back, and the end.
 pub fn nested(
     alloc: Global,
-    front: &[u8],
+    prefix: &[u8],
     middle: &[u8],
     back: &[u8],
     times: usize,
     end: &[u8],
 ) -> Result<Vec<u8>, AllocError> {
     let closed = repeated(alloc, b"", back, times, end)?;
-    repeated(alloc, front, middle, times, closed.as_slice())
+    repeated(alloc, prefix, middle, times, closed.as_slice())
 }
 
-// The front, so many `LET` clauses of one test each, whose variables have different names, and the
+// The prefix, so many `LET` clauses of one test each, whose variables have different names, and the
 // back.
 pub fn bindings(
     alloc: Global,
-    front: &[u8],
+    prefix: &[u8],
     times: u32,
     back: &[u8],
 ) -> Result<Vec<u8>, AllocError> {
     let mut text = Vec::new(alloc);
-    text.extend_from_slice(front)?;
+    text.extend_from_slice(prefix)?;
     for turn in 0..times {
         text.extend_from_slice(b"LET $")?;
         text.extend_from_slice(&letters(turn))?;
@@ -61,9 +61,9 @@ fn thirty_two_levels_are_a_query_and_thirty_three_are_not(rt: HostRuntime) -> Re
         (RETURN, b"<a>", b"</a>", 32),
         (RETURN, b"<a b='1'>'t'<c/>", b"</a>", 31),
     ];
-    for (front, middle, back, most) in rows {
+    for (prefix, middle, back, most) in rows {
         for (times, wanted) in [(most, None), (most + 1, Some(TooNested))] {
-            let text = nested(rt.alloc(), front, middle, back, times, b"");
+            let text = nested(rt.alloc(), prefix, middle, back, times, b"");
             let text = text.map_err(|_fault| "memory")?;
             assert_eq!(rt; read_query(rt.alloc(), text.as_slice()).err(), wanted);
         }
@@ -88,8 +88,8 @@ fn tests_are_counted_and_constructors_are_not(rt: HostRuntime) -> Result<(), Fai
             None,
         ),
     ];
-    for (front, middle, times, back, wanted) in rows {
-        let text = repeated(rt.alloc(), front, middle, times, back).map_err(|_fault| "memory")?;
+    for (prefix, middle, times, back, wanted) in rows {
+        let text = repeated(rt.alloc(), prefix, middle, times, back).map_err(|_fault| "memory")?;
         assert_eq!(rt; read_query(rt.alloc(), text.as_slice()).err(), wanted);
     }
     Ok(())
@@ -105,8 +105,8 @@ fn variables_of_all_clauses_are_counted_together(rt: HostRuntime) -> Result<(), 
         (first, 30, last, None),
         (first, 31, last, Some(TooManyVariables)),
     ];
-    for (front, times, back, wanted) in rows {
-        let text = bindings(rt.alloc(), front, times, back).map_err(|_fault| "memory")?;
+    for (prefix, times, back, wanted) in rows {
+        let text = bindings(rt.alloc(), prefix, times, back).map_err(|_fault| "memory")?;
         assert_eq!(rt; read_query(rt.alloc(), text.as_slice()).err(), wanted);
     }
     Ok(())

@@ -74,8 +74,8 @@ fn nesting_yields_to_syntax_behind_it(rt: HostRuntime) -> Result<(), Fail> {
         (b"FOR $x IN document('d')//x RETURN ", b"<a>", 110),
         (b"MATCH document('d') ", b"(//- a ", 138),
     ];
-    for (front, middle, wanted) in rows {
-        let text = repeated(rt.alloc(), front, middle, 33, b"");
+    for (prefix, middle, wanted) in rows {
+        let text = repeated(rt.alloc(), prefix, middle, 33, b"");
         assert_eq!(rt; fault_in(rt.alloc(), text), Some(Syntax(wanted)));
     }
     Ok(())
@@ -84,14 +84,14 @@ fn nesting_yields_to_syntax_behind_it(rt: HostRuntime) -> Result<(), Fail> {
 #[test]
 fn tests_before_deep_constructors_yield_to_them(rt: HostRuntime) -> Result<(), Fail> {
     for (levels, wanted) in [(32, TooManyNodes), (33, TooNested)] {
-        let front = repeated(
+        let prefix = repeated(
             rt.alloc(),
             b"FOR $x IN document('d')",
             b"/a",
             65,
             b" RETURN ",
         )?;
-        let text = nested(rt.alloc(), front.as_slice(), b"<a>", b"</a>", levels, b"");
+        let text = nested(rt.alloc(), prefix.as_slice(), b"<a>", b"</a>", levels, b"");
         assert_eq!(rt; fault_in(rt.alloc(), text), Some(wanted));
     }
     Ok(())
@@ -100,14 +100,14 @@ fn tests_before_deep_constructors_yield_to_them(rt: HostRuntime) -> Result<(), F
 #[test]
 fn edges_side_by_side_yield_to_deep_ones_behind_them(rt: HostRuntime) -> Result<(), Fail> {
     for (below, wanted) in [(31, TooManyNodes), (32, TooNested)] {
-        let front = repeated(
+        let prefix = repeated(
             rt.alloc(),
             b"MATCH document('d') (//- a",
             b", //- a",
             64,
             b"",
         )?;
-        let text = nested(rt.alloc(), front.as_slice(), b" (//- a", b")", below, b")");
+        let text = nested(rt.alloc(), prefix.as_slice(), b" (//- a", b")", below, b")");
         assert_eq!(rt; fault_in(rt.alloc(), text), Some(wanted));
     }
     Ok(())

@@ -120,17 +120,17 @@ fn each_fault_is_told_by_its_token(rt: HostRuntime) -> Result<(), Fail> {
     Ok(())
 }
 
-// The front, so many times the middle, and the back. In the place of `#` in the middle stands another
+// The prefix, so many times the middle, and the back. In the place of `#` in the middle stands another
 // name of three letters each time.
 fn repeated(
     alloc: Global,
-    front: &[u8],
+    prefix: &[u8],
     middle: &[u8],
     times: u32,
     back: &[u8],
 ) -> Result<Vec<u8>, AllocError> {
     let mut text = Vec::new(alloc);
-    text.extend_from_slice(front)?;
+    text.extend_from_slice(prefix)?;
     for turn in 0..times {
         for byte in middle {
             if *byte == b'#' {
@@ -154,11 +154,11 @@ fn name_of(number: u32) -> [u8; 3] {
 
 #[test]
 fn long_texts_are_told(rt: HostRuntime) -> Result<(), Fail> {
-    let front = b"FOR $x IN document('d')/a RETURN ";
+    let prefix = b"FOR $x IN document('d')/a RETURN ";
     let rows: [(&[u8], &[u8], u32, &[u8], Found); 6] = [
-        (front, b"<a>", 32, b"", NOTHING),
+        (prefix, b"<a>", 32, b"", NOTHING),
         (
-            front,
+            prefix,
             b"<a>",
             33,
             b"",
@@ -168,7 +168,7 @@ fn long_texts_are_told(rt: HostRuntime) -> Result<(), Fail> {
             },
         ),
         (
-            front,
+            prefix,
             b"<a>",
             21_000,
             b"</b>",
@@ -210,8 +210,8 @@ fn long_texts_are_told(rt: HostRuntime) -> Result<(), Fail> {
             },
         ),
     ];
-    for (front, middle, times, back, wanted) in rows {
-        let text = repeated(rt.alloc(), front, middle, times, back).map_err(|_fault| "memory")?;
+    for (prefix, middle, times, back, wanted) in rows {
+        let text = repeated(rt.alloc(), prefix, middle, times, back).map_err(|_fault| "memory")?;
         let found = found_in(rt.alloc(), text.as_slice()).map_err(|_fault| "memory")?;
         assert_eq!(rt; found, wanted);
     }

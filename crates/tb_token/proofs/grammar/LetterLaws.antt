@@ -15,15 +15,15 @@ and-false false = refl
 pub and-three : (x y z : Bool) → (x && y && z) ≡ true → (x ≡ true) × (y ≡ true) × (z ≡ true)
 and-three x y z is =
     let last = and_parts (x && y) z is in
-    let front = and_parts x y last.0 in
-    (front.0, front.1, last.1)
+    let prefix = and_parts x y last.0 in
+    (prefix.0, prefix.1, last.1)
 
 pub and-five : (x y z u w : Bool) → (x && y && z && u && w) ≡ true → (x ≡ true) × (y ≡ true) × (z ≡ true) × (u ≡ true) × (w ≡ true)
 and-five x y z u w is =
     let last = and_parts (x && y && z && u) w is in
     let fourth = and_parts (x && y && z) u last.0 in
-    let front = and-three x y z fourth.0 in
-    (front.0, front.1, front.2, fourth.1, last.1)
+    let prefix = and-three x y z fourth.0 in
+    (prefix.0, prefix.1, prefix.2, fourth.1, last.1)
 
 pub has-first : (x : ℕ) (c : List ℕ) → has (x ∷ c) x ≡ true
 has-first x c = or_left (x == x) (has c x) ((Decides-eqb x x).1 refl)

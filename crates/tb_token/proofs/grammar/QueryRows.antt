@@ -1,11 +1,11 @@
--- Texts of queries worked out by hand: where each stops being the front of a query.
+-- Texts of queries worked out by hand: where each stops being the prefix of a query.
 use Rattle.std.proofs.Common.{◌≡◌, ℕ, zero, suc, ◌+◌, ◌-◌, true, false, List, [], ◌∷◌, drop, length, Option, Some, None, refl}
 use Rattle.std.specs.Prelude.{codes}
 use Rattle.tb_token.specs.grammar.Grammar.{Tok, Part}
 use Rattle.tb_token.specs.grammar.Reading.{read}
 use Rattle.tb_token.specs.grammar.Decided.{is_decided}
 use Rattle.tb_token.specs.tokens.Bytes.{is_blank}
-use Rattle.tb_token.specs.tokens.Fronts.{front_of}
+use Rattle.tb_token.specs.tokens.Prefixes.{prefix_of}
 use Rattle.tb_token.specs.tokens.Cuts.{token}
 use Rattle.tb_token.specs.tokens.Letters.{toks_of}
 use Rattle.tb_token.specs.grammar.Patterns.{match_query}
@@ -19,9 +19,9 @@ scan zero at bytes = []
 scan (suc n) at [] = []
 scan (suc n) at (b ∷ bs) = elim (is_blank b) [
   | true ↦ scan n (at + 1) bs
-  | false ↦ elim (front_of (b ∷ bs)) [
+  | false ↦ elim (prefix_of (b ∷ bs)) [
     | None ↦ []
-    | Some front ↦ token front.kind at (at + front.size) ∷ scan n (at + front.size) (drop front.size (b ∷ bs))
+    | Some prefix ↦ token prefix.kind at (at + prefix.size) ∷ scan n (at + prefix.size) (drop prefix.size (b ∷ bs))
   ]
 ]
 

@@ -83,8 +83,8 @@ module _ (rules : Rules) (follow : ℕ → List ℕ) (good : AreGood rules follo
 
 -- no token at all is a word only where the parts may end
 
-ends-front : (p : Part) (ps : List Part) → may_end (p ∷ ps) ≡ true → (is_filled p ≡ false) × (may_end ps ≡ true)
-ends-front p ps is = by (is_filled p) (may_end ps) is
+ends-prefix : (p : Part) (ps : List Part) → may_end (p ∷ ps) ≡ true → (is_filled p ≡ false) × (may_end ps ≡ true)
+ends-prefix p ps is = by (is_filled p) (may_end ps) is
   where
     by : (filled ends : Bool) → (cond filled false true && ends) ≡ true → (filled ≡ false) × (ends ≡ true)
     by true ends is = none-true false refl is
@@ -96,23 +96,23 @@ ends-from p ps filled ends = rw (filled, ends) refl
 pub none-ends : {rules : Rules} {ps : List Part} {vs : List Tree} → Derives rules ps vs [] → may_end ps ≡ true
 none-ends at_end = refl
 none-ends (by_both {p = p} {q = q} {ps = ps} w) =
-    let one_is = ends-front p (q ∷ ps) (none-ends w) in
-    let two_is = ends-front q ps one_is.1 in
+    let one_is = ends-prefix p (q ∷ ps) (none-ends w) in
+    let two_is = ends-prefix q ps one_is.1 in
     ends-from (both p q) ps (rw (one_is.0, two_is.0) refl) two_is.1
 none-ends (by_first {p = p} {q = q} {ps = ps} w) =
-    let is = ends-front p ps (none-ends w) in
+    let is = ends-prefix p ps (none-ends w) in
     ends-from (either p q) ps (rw is.0 refl) is.1
 none-ends (by_second {p = p} {q = q} {ps = ps} w) =
-    let is = ends-front q ps (none-ends w) in
+    let is = ends-prefix q ps (none-ends w) in
     ends-from (either p q) ps (rw (is.0, and-false (is_filled p)) refl) is.1
 none-ends (left_out {p = p} {ps = ps} w) = ends-from (maybe p) ps refl (none-ends w)
-none-ends (put_in {p = p} {ps = ps} w) = ends-from (maybe p) ps refl (ends-front p ps (none-ends w)).1
+none-ends (put_in {p = p} {ps = ps} w) = ends-from (maybe p) ps refl (ends-prefix p ps (none-ends w)).1
 none-ends (no_more {p = p} {ps = ps} w) = ends-from (many p) ps refl (none-ends w)
-none-ends (one_more {p = p} {ps = ps} w) = ends-from (many p) ps refl (ends-front (many p) ps (ends-front p (many p ∷ ps) (none-ends w)).1).1
+none-ends (one_more {p = p} {ps = ps} w) = ends-from (many p) ps refl (ends-prefix (many p) ps (ends-prefix p (many p ∷ ps) (none-ends w)).1).1
 
 -- a filled part takes a token
 pub filled-takes : {rules : Rules} {p : Part} {ps : List Part} {vs : List Tree} → is_filled p ≡ true → Derives rules (p ∷ ps) vs [] → ⊥
-filled-takes {p = p} {ps = ps} filled w = none-true (is_filled p) (ends-front p ps (none-ends w)).0 filled
+filled-takes {p = p} {ps = ps} filled w = none-true (is_filled p) (ends-prefix p ps (none-ends w)).0 filled
 
 -- each part has its tree
 pub trees-length : {rules : Rules} {ps : List Part} {vs : List Tree} {s : List Tok} → Derives rules ps vs s → length vs ≡ length ps
@@ -198,7 +198,7 @@ module _ (rules : Rules) where
   pub none-word : (ps : List Part) → may_end ps ≡ true → AreWord rules ps []
   none-word [] ends = ([], at_end)
   none-word (p ∷ ps) ends =
-      let is = ends-front p ps ends in
+      let is = ends-prefix p ps ends in
       word-empty p ps [] is.0 (none-word ps is.1)
 
 -- Each list of decided parts has a word.

@@ -10,7 +10,7 @@ use Rattle.tb_token.specs.declared.lexer.token.Token.{Token}
 use Rattle.tb_token.specs.declared.lexer.fault.LexFault.{LexFault}
 use Rattle.tb_token.proofs.lexing.KindLaws.{kind_class, blank-class, quote-class, token-some, kind-unique}
 use Rattle.tb_token.proofs.grammar.LetterLaws.{none-true}
-use Rattle.tb_token.proofs.lexing.FrontLaws.{token-front}
+use Rattle.tb_token.proofs.lexing.PrefixLaws.{token-prefix}
 
 -- a token has a byte
 pub longest-some : {bytes : List ℕ} {k : Kind} {n : ℕ} → IsLongest bytes k n → 0 < n
@@ -35,7 +35,7 @@ class-below Sign = omega arith
 -- no token begins with a blank
 longest-blank : {b : ℕ} {bs : List ℕ} {k : Kind} {n : ℕ} → is_blank b ≡ true → IsLongest (b ∷ bs) k n → ⊥
 longest-blank {b = b} {bs = bs} {k = k} {n = n} blank l =
-    let class = token-front k b bs n l.is in
+    let class = token-prefix k b bs n l.is in
     let five = blank-class b blank in
     let below = class-below k in
     absurd (omega arith)

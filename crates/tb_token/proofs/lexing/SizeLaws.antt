@@ -5,7 +5,7 @@ use Rattle.std.proofs.lemmas.Bool.{and_parts, and_from}
 use Rattle.tb_token.specs.tokens.Bytes.{is_digit, starts_name}
 use Rattle.tb_token.specs.tokens.Names.{goes_on, begins_name, all_go_on, is_name}
 use Rattle.tb_token.specs.tokens.Kinds.{is_closed, is_none}
-use Rattle.tb_token.specs.tokens.Fronts.{rest_len}
+use Rattle.tb_token.specs.tokens.Prefixes.{rest_len}
 
 -- Bytes that all pass.
 
@@ -16,9 +16,9 @@ all-step test b bs true e all =
     rw more (and_from (test b) (list_all test (take (prefix_len test bs) bs)) e all)
 all-step test b bs false e all = refl
 
-pub all-front : (test : ℕ → Bool) (bytes : List ℕ) → list_all test (take (prefix_len test bytes) bytes) ≡ true
-all-front test [] = refl
-all-front test (b ∷ bs) = all-step test b bs (test b) refl (all-front test bs)
+pub all-prefix : (test : ℕ → Bool) (bytes : List ℕ) → list_all test (take (prefix_len test bytes) bytes) ≡ true
+all-prefix test [] = refl
+all-prefix test (b ∷ bs) = all-step test b bs (test b) refl (all-prefix test bs)
 
 pub all-most : (test : ℕ → Bool) (bytes : List ℕ) (n : ℕ) → n ≤ length bytes → list_all test (take n bytes) ≡ true → n ≤ prefix_len test bytes
 all-most test bytes zero within all = omega arith
@@ -30,10 +30,10 @@ all-most test (b ∷ bs) (suc n) within all =
 
 -- Bytes that go on with a name.
 
-begins-front : (n : ℕ) (bs : List ℕ) → begins_name (take n bs) ≡ true → begins_name bs ≡ true
-begins-front zero bs is = absurd (let d : ◌≡◌ {A = Bool} false true = is in cc)
-begins-front (suc n) [] is = is
-begins-front (suc n) (b ∷ bs) is = is
+begins-prefix : (n : ℕ) (bs : List ℕ) → begins_name (take n bs) ≡ true → begins_name bs ≡ true
+begins-prefix zero bs is = absurd (let d : ◌≡◌ {A = Bool} false true = is in cc)
+begins-prefix (suc n) [] is = is
+begins-prefix (suc n) (b ∷ bs) is = is
 
 goes-more : (p q y : Bool) → (p || (q && false)) ≡ true → (p || (q && y)) ≡ true
 goes-more true q y is = refl
@@ -45,15 +45,15 @@ goes-by p q true y more is = rw (more refl) is
 goes-by p q false y more is = goes-more p q y is
 
 -- a byte goes on with the bytes behind it that begin as those do
-goes-along : (b : ℕ) (front bs : List ℕ) → (begins_name front ≡ true → begins_name bs ≡ true) → goes_on b front ≡ true → goes_on b bs ≡ true
-goes-along b front bs more is = goes-by (starts_name b || is_digit b || b == 45 || b == 46) (b == 58) (begins_name front) (begins_name bs) more is
+goes-along : (b : ℕ) (prefix bs : List ℕ) → (begins_name prefix ≡ true → begins_name bs ≡ true) → goes_on b prefix ≡ true → goes_on b bs ≡ true
+goes-along b prefix bs more is = goes-by (starts_name b || is_digit b || b == 45 || b == 46) (b == 58) (begins_name prefix) (begins_name bs) more is
 
 pub rest-most : (bs : List ℕ) (n : ℕ) → n ≤ length bs → all_go_on (take n bs) ≡ true → n ≤ rest_len bs
 rest-most bs zero within all = omega arith
 rest-most [] (suc n) within all = absurd (omega arith)
 rest-most (b ∷ bs) (suc n) within all =
     let parts = and_parts (goes_on b (take n bs)) (all_go_on (take n bs)) all in
-    let here = goes-along b (take n bs) bs (begins-front n bs) parts.0 in
+    let here = goes-along b (take n bs) bs (begins-prefix n bs) parts.0 in
     let rest = rest-most bs n (omega arith) parts.1 in
     rw here (omega arith)
 
@@ -68,9 +68,9 @@ rest-le (b ∷ bs) = rest-le-by (goes_on b bs) bs (rest-le bs)
 starts-goes : (b : ℕ) (bs : List ℕ) → starts_name b ≡ true → goes_on b bs ≡ true
 starts-goes b bs is = rw is refl
 
-front-begins : (bs : List ℕ) → begins_name bs ≡ true → begins_name (take (rest_len bs) bs) ≡ true
-front-begins [] is = is
-front-begins (b ∷ bs) is =
+prefix-begins : (bs : List ℕ) → begins_name bs ≡ true → begins_name (take (rest_len bs) bs) ≡ true
+prefix-begins [] is = is
+prefix-begins (b ∷ bs) is =
     let more : 1 + rest_len bs ≡ suc (rest_len bs) = omega arith in
     rw (starts-goes b bs is, more) is
 
@@ -78,20 +78,20 @@ rest-step : (b : ℕ) (bs : List ℕ) (goes : Bool) → goes_on b bs ≡ goes �
     → all_go_on (take (cond goes (1 + rest_len bs) 0) (b ∷ bs)) ≡ true
 rest-step b bs true e all =
     let more : 1 + rest_len bs ≡ suc (rest_len bs) = omega arith in
-    let here = goes-along b bs (take (rest_len bs) bs) (front-begins bs) e in
+    let here = goes-along b bs (take (rest_len bs) bs) (prefix-begins bs) e in
     rw more (and_from (goes_on b (take (rest_len bs) bs)) (all_go_on (take (rest_len bs) bs)) here all)
 rest-step b bs false e all = refl
 
-pub rest-front : (bs : List ℕ) → all_go_on (take (rest_len bs) bs) ≡ true
-rest-front [] = refl
-rest-front (b ∷ bs) = rest-step b bs (goes_on b bs) refl (rest-front bs)
+pub rest-prefix : (bs : List ℕ) → all_go_on (take (rest_len bs) bs) ≡ true
+rest-prefix [] = refl
+rest-prefix (b ∷ bs) = rest-step b bs (goes_on b bs) refl (rest-prefix bs)
 
 -- Names.
 
-pub name-front : (b : ℕ) (bs : List ℕ) → starts_name b ≡ true → is_name (take (1 + rest_len bs) (b ∷ bs)) ≡ true
-name-front b bs is =
+pub name-prefix : (b : ℕ) (bs : List ℕ) → starts_name b ≡ true → is_name (take (1 + rest_len bs) (b ∷ bs)) ≡ true
+name-prefix b bs is =
     let more : 1 + rest_len bs ≡ suc (rest_len bs) = omega arith in
-    rw more (and_from (starts_name b) (all_go_on (take (rest_len bs) bs)) is (rest-front bs))
+    rw more (and_from (starts_name b) (all_go_on (take (rest_len bs) bs)) is (rest-prefix bs))
 
 pub name-most : (b : ℕ) (bs : List ℕ) (n : ℕ) → n ≤ length (b ∷ bs) → is_name (take n (b ∷ bs)) ≡ true → n ≤ 1 + rest_len bs
 name-most b bs zero within is = omega arith
@@ -104,7 +104,7 @@ name-most b bs (suc n) within is =
 abbrev pub inside : ℕ → List ℕ → ℕ
 inside q bs = position_or_len (λ b. b == q) bs
 
--- a front that is closed ends with the first such quote
+-- a prefix that is closed ends with the first such quote
 pub record IsClosedAt (q : ℕ) (bs : List ℕ) (n : ℕ) : Type 0 where
   pub within : inside q bs < length bs
   pub size : n ≡ inside q bs + 1
@@ -130,13 +130,13 @@ closed-at q bs zero within is = absurd (let d : ◌≡◌ {A = Bool} false true 
 closed-at q [] (suc n) within is = absurd (omega arith)
 closed-at q (b ∷ bs) (suc n) within is = closed-step q b bs n (b == q) refl (omega arith) (λ e. closed-at q bs n (omega arith) e) is
 
-closed-front-step : (q b : ℕ) (bs : List ℕ) (same : Bool) → (b == q) ≡ same → (inside q bs < length bs → is_closed q (take (inside q bs + 1) bs) ≡ true)
+closed-prefix-step : (q b : ℕ) (bs : List ℕ) (same : Bool) → (b == q) ≡ same → (inside q bs < length bs → is_closed q (take (inside q bs + 1) bs) ≡ true)
     → cond (not same) (1 + inside q bs) 0 < suc (length bs) → is_closed q (take (cond (not same) (1 + inside q bs) 0 + 1) (b ∷ bs)) ≡ true
-closed-front-step q b bs true e more within = rw e refl
-closed-front-step q b bs false e more within =
+closed-prefix-step q b bs true e more within = rw e refl
+closed-prefix-step q b bs false e more within =
     let size : 1 + inside q bs + 1 ≡ suc (inside q bs + 1) = omega arith in
     rw (size, e) (more (omega arith))
 
-pub closed-front : (q : ℕ) (bs : List ℕ) → inside q bs < length bs → is_closed q (take (inside q bs + 1) bs) ≡ true
-closed-front q [] within = absurd (omega arith)
-closed-front q (b ∷ bs) within = closed-front-step q b bs (b == q) refl (closed-front q bs) within
+pub closed-prefix : (q : ℕ) (bs : List ℕ) → inside q bs < length bs → is_closed q (take (inside q bs + 1) bs) ≡ true
+closed-prefix q [] within = absurd (omega arith)
+closed-prefix q (b ∷ bs) within = closed-prefix-step q b bs (b == q) refl (closed-prefix q bs) within

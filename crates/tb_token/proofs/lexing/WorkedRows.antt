@@ -3,7 +3,7 @@ use Rattle.std.proofs.Common.{◌≡◌, true, false, refl, ◌∷◌, []}
 use Rattle.std.specs.Prelude.{codes, None}
 use Rattle.tb_token.specs.tokens.Names.{is_name, is_word}
 use Rattle.tb_token.specs.tokens.Kinds.{is_token}
-use Rattle.tb_token.specs.tokens.Fronts.{front_of, found}
+use Rattle.tb_token.specs.tokens.Prefixes.{prefix_of, found}
 use Rattle.tb_token.specs.declared.lexer.token.Kind.TheVariants.{Name, Word, Variable, Number, Quoted, TextTest, Sign}
 
 pub name-colon : is_name (codes "a:b-c.d_1") ≡ true
@@ -33,29 +33,29 @@ quoted-other = refl
 pub quoted-wrong : is_token Quoted (codes "\"a'") ≡ false
 quoted-wrong = refl
 
-pub front-number : front_of (codes "7a") ≡ found Number 1
-front-number = refl
+pub prefix-number : prefix_of (codes "7a") ≡ found Number 1
+prefix-number = refl
 
-pub front-colons : front_of (codes "a::b") ≡ found Name 1
-front-colons = refl
+pub prefix-colons : prefix_of (codes "a::b") ≡ found Name 1
+prefix-colons = refl
 
-pub front-colon : front_of (codes ":b") ≡ None
-front-colon = refl
+pub prefix-colon : prefix_of (codes ":b") ≡ None
+prefix-colon = refl
 
-pub front-text : front_of (codes "text()") ≡ found TextTest 6
-front-text = refl
+pub prefix-text : prefix_of (codes "text()") ≡ found TextTest 6
+prefix-text = refl
 
-pub front-text_blank : front_of (codes "text ()") ≡ found Name 4
-front-text_blank = refl
+pub prefix-text_blank : prefix_of (codes "text ()") ≡ found Name 4
+prefix-text_blank = refl
 
-pub front-word : front_of (codes "for$x") ≡ found Word 3
-front-word = refl
+pub prefix-word : prefix_of (codes "for$x") ≡ found Word 3
+prefix-word = refl
 
-pub front-variable : front_of (codes "$x/y") ≡ found Variable 2
-front-variable = refl
+pub prefix-variable : prefix_of (codes "$x/y") ≡ found Variable 2
+prefix-variable = refl
 
-pub front-dollar : front_of (codes "$ x") ≡ None
-front-dollar = refl
+pub prefix-dollar : prefix_of (codes "$ x") ≡ None
+prefix-dollar = refl
 
-pub front-end : front_of (codes "</a") ≡ found Sign 2
-front-end = refl
+pub prefix-end : prefix_of (codes "</a") ≡ found Sign 2
+prefix-end = refl

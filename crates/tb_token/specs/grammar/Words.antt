@@ -1,4 +1,4 @@
--- What a grammar says of a list of tokens: its words with their trees, their fronts, and where a
+-- What a grammar says of a list of tokens: its words with their trees, their prefixes, and where a
 -- list that is no word is wrong.
 use Rattle.std.specs.Prelude.{ℕ, ◌+◌, ◌<◌, ◌≤◌, IsTrue, List, [], ◌∷◌, ◌++◌, length, take}
 use Rattle.tb_token.specs.grammar.Grammar.{Tok, Part, one, both, either, maybe, many, opened, Rules, has}

@@ -7,13 +7,13 @@ use Rattle.tb_token.specs.declared.lexer.token.Token.{Token}
 use Rattle.tb_token.specs.declared.lexer.fault.LexFault.{LexFault}
 use Rattle.tb_token.specs.declared.lexer.fault.LexFault.TheVariants.{BadByte, OpenString}
 
--- the first bytes, so many of them, are a token of this kind, and no longer front is any token
+-- the first bytes, so many of them, are a token of this kind, and no longer prefix is any token
 pub record IsLongest (bytes : List ℕ) (kind : Kind) (size : ℕ) : Type 0 where
   pub within : size ≤ length bytes
   pub is : IsTrue (is_token kind (take size bytes))
   pub most : (k : Kind) (n : ℕ) → n ≤ length bytes → IsTrue (is_token k (take n bytes)) → n ≤ size
 
--- no front of the bytes is a token
+-- no prefix of the bytes is a token
 abbrev pub BeginsNone : List ℕ → Type 0
 BeginsNone bytes = (k : Kind) (n : ℕ) → n ≤ length bytes → ¬ IsTrue (is_token k (take n bytes))
 

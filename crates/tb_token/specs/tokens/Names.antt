@@ -5,7 +5,7 @@ use Rattle.std.specs.List.{list_any}
 use Rattle.std.specs.Str.{bytes_eq}
 use Rattle.tb_token.specs.tokens.Bytes.{is_digit, starts_name}
 
--- a byte stands at the front that a name begins with
+-- a byte stands at the beginning that a name begins with
 abbrev pub begins_name : List ℕ → Bool
 begins_name [] = false
 begins_name (b ∷ bs) = starts_name b

@@ -7,7 +7,7 @@ ghost use Rattle.tb_token.specs.tokens.Places.{StandsAt, fault_at};
 
 use crate::lexer::bytes::{is_blank, is_quote};
 use crate::lexer::fault::LexFault;
-use crate::lexer::front::Front;
+use crate::lexer::prefix::Prefix;
 use crate::lexer::token::Token;
 use std::alloc::Global;
 
@@ -40,13 +40,13 @@ fn token_at(text: &[u8], at: usize) -> Result<Token, LexFault>
     requires some { is_blank (slice_index text.now at) ≡ false }
     ensures { StandsAt at (drop at text.now) result }
 {
-    let Some(front) = Front::of(&text[at..]) else {
+    let Some(prefix) = Prefix::of(&text[at..]) else {
         return Err(fault_at(text[at], at as u32));
     };
     Ok(Token {
-        kind: front.kind,
+        kind: prefix.kind,
         from: at as u32,
-        to: (at + front.size) as u32,
+        to: (at + prefix.size) as u32,
     })
 }
 

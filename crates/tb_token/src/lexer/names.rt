@@ -1,10 +1,10 @@
-//! Names and words at the front of bytes.
+//! Names and words at the beginning of bytes.
 
 ghost use Rattle.std.specs.Prelude.{◌≡◌, ◌≤◌, length, map};
 ghost use Rattle.std.specs.List.{list_any};
 ghost use Rattle.std.specs.Str.{bytes_eq};
 ghost use Rattle.tb_token.specs.tokens.Names.{begins_name, goes_on, is_word};
-ghost use Rattle.tb_token.specs.tokens.Fronts.{rest_len, begins_text_test};
+ghost use Rattle.tb_token.specs.tokens.Prefixes.{rest_len, begins_text_test};
 
 use crate::lexer::bytes::{is_digit, starts_name};
 
@@ -41,7 +41,7 @@ fn begins_name(bytes: &[u8]) -> bool
     }
 }
 
-/// Whether `text()` or `TEXT()` stands at the front.
+/// Whether `text()` or `TEXT()` stands at the beginning.
 pub fn begins_text_test(bytes: &[u8]) -> bool
     ensures { result ≡ begins_text_test bytes.now }
 {

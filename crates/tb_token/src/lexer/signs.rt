@@ -1,7 +1,7 @@
-//! Signs at the front of bytes.
+//! Signs at the beginning of bytes.
 
 ghost use Rattle.std.specs.Prelude.{◌≡◌};
-ghost use Rattle.tb_token.specs.tokens.Fronts.{is_single, is_pair};
+ghost use Rattle.tb_token.specs.tokens.Prefixes.{is_single, is_pair};
 
 /// Whether the two bytes are a sign.
 pub fn is_pair(first: u8, second: u8) -> bool

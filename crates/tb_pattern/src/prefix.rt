@@ -1,4 +1,4 @@
-//! The front of tokens that are a query.
+//! The next tokens of a query, as what they stand for.
 
 ghost use Rattle.std.specs.Prelude.{◌≡◌, IfOk, drop};
 ghost use Rattle.tb_pattern.specs.Building as built;

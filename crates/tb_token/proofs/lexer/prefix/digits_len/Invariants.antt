@@ -1,7 +1,7 @@
 use Rattle.std.proofs.Common.{◌≡◌, ◌+◌, drop}
 use Rattle.std.specs.List.{prefix_len}
 use Rattle.tb_token.specs.tokens.Bytes.{is_digit}
-use Rattle.tb_token.proofs.lexer.front.digits_len.Given as goal
+use Rattle.tb_token.proofs.lexer.prefix.digits_len.Given as goal
 
 -- the bytes passed are counted, and what is left is counted in the same way
 abbrev pub invariant-digits : goal.invariant-digits

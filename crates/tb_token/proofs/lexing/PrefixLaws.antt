@@ -1,4 +1,4 @@
--- What the program finds at the front is the longest token, and it finds one wherever there is one.
+-- What the program finds at the beginning is the longest token, and it finds one wherever there is one.
 use Rattle.std.proofs.Common.{◌≡◌, ◌⊎◌, inl, inr, ⊎_elim, ℕ, zero, suc, ◌+◌, ◌<◌, ◌≤◌, Bool, true, false, cond, not, ◌==◌, List, [], ◌∷◌, ◌++◌, length, take, drop, Option, None, refl, sym, ap, ◌∙◌, subst, arith, eqb-true, ltb-true, take-append-drop}
 use Rattle.std.specs.Prelude.{codes, nat_lt, nat_eq}
 use Rattle.std.specs.List.{list_all, prefix_len, starts_with}
@@ -12,19 +12,19 @@ use Rattle.tb_token.specs.tokens.Bytes.{is_blank, is_digit, is_quote, starts_nam
 use Rattle.tb_token.specs.tokens.Names.{is_name, is_word, is_among}
 use Rattle.tb_token.specs.tokens.Kinds.{is_token, is_closed, is_text_test, signs}
 use Rattle.tb_token.specs.tokens.Cuts.{IsLongest}
-use Rattle.tb_token.specs.tokens.Fronts.{Finds, found, rest_len, begins_text_test, named, quoted, variable, is_pair, is_single, sign, front_of}
+use Rattle.tb_token.specs.tokens.Prefixes.{Finds, found, rest_len, begins_text_test, named, quoted, variable, is_pair, is_single, sign, prefix_of}
 use Rattle.tb_token.specs.declared.lexer.token.Kind.{Kind}
 use Rattle.tb_token.specs.declared.lexer.token.Kind.TheVariants.{Name, Word, Variable, Number, Quoted, TextTest, Sign}
-use Rattle.tb_token.specs.declared.lexer.front.Front.{Front}
+use Rattle.tb_token.specs.declared.lexer.prefix.Prefix.{Prefix}
 use Rattle.tb_token.proofs.grammar.LetterLaws.{none-true}
 use Rattle.tb_token.proofs.lexing.AmongLaws.{or-by, among-passes}
 use Rattle.tb_token.proofs.lexing.KindLaws.{class_of, kind_class, name-class, digit-class, quote-class, dollar-class, token-class, token-some, word-name}
-use Rattle.tb_token.proofs.lexing.SizeLaws.{all-front, all-most, rest-le, name-front, name-most, inside, closed-at, closed-front}
+use Rattle.tb_token.proofs.lexing.SizeLaws.{all-prefix, all-most, rest-le, name-prefix, name-most, inside, closed-at, closed-prefix}
 use Rattle.tb_token.proofs.lexing.SignLaws.{sign-single, sign-pair, sign-short}
 
-pub token-front : (k : Kind) (b : ℕ) (bs : List ℕ) (n : ℕ) → is_token k (take n (b ∷ bs)) ≡ true → class_of b ≡ kind_class k
-token-front k b bs zero is = none-true (is_token k []) (token-some k) is
-token-front k b bs (suc n) is = token-class k b (take n bs) is
+pub token-prefix : (k : Kind) (b : ℕ) (bs : List ℕ) (n : ℕ) → is_token k (take n (b ∷ bs)) ≡ true → class_of b ≡ kind_class k
+token-prefix k b bs zero is = none-true (is_token k []) (token-some k) is
+token-prefix k b bs (suc n) is = token-class k b (take n bs) is
 
 -- all classes but that of names have one kind
 abbrev lone : ℕ → Kind
@@ -41,7 +41,7 @@ lone-is Sign some = refl
 
 lone-token : (class : ℕ) (k : Kind) (b : ℕ) (bs : List ℕ) (n : ℕ) → class_of b ≡ class → 0 < class → is_token k (take n (b ∷ bs)) ≡ true → is_token (lone class) (take n (b ∷ bs)) ≡ true
 lone-token class k b bs n e some is =
-    let same : kind_class k ≡ class = sym (token-front k b bs n is) ∙ e in
+    let same : kind_class k ≡ class = sym (token-prefix k b bs n is) ∙ e in
     let kind : lone class ≡ k = ap lone (sym same) ∙ lone-is k (omega arith) in
     rw kind is
 
@@ -53,7 +53,7 @@ number-longest b bs digit = record {
   is =
       let more : 1 + prefix_len is_digit bs ≡ suc (prefix_len is_digit bs) = omega arith in
       rw more (and_from (nat_lt 0 (length (b ∷ take (prefix_len is_digit bs) bs))) (list_all is_digit (b ∷ take (prefix_len is_digit bs) bs))
-      (grind (arith, nat_tests)) (and_from (is_digit b) (list_all is_digit (take (prefix_len is_digit bs) bs)) digit (all-front is_digit bs)));
+      (grind (arith, nat_tests)) (and_from (is_digit b) (list_all is_digit (take (prefix_len is_digit bs) bs)) digit (all-prefix is_digit bs)));
   most = λ k n within is.
       let number = lone-token 1 k b bs n (digit-class b digit) (omega arith) is in
       let all = (and_parts (nat_lt 0 (length (take n (b ∷ bs)))) (list_all is_digit (take n (b ∷ bs))) number).1 in
@@ -77,7 +77,7 @@ quoted-by q bs quote true e =
       within = omega arith;
       is =
           let more : inside q bs + 2 ≡ suc (inside q bs + 1) = omega arith in
-          rw more (and_from (is_quote q) (is_closed q (take (inside q bs + 1) bs)) quote (closed-front q bs some));
+          rw more (and_from (is_quote q) (is_closed q (take (inside q bs + 1) bs)) quote (closed-prefix q bs some));
       most = λ k n within is. let size = (quoted-size q bs quote k n within is).0 in omega arith;
     }
 quoted-by q bs quote false e = λ k n within is.
@@ -109,7 +109,7 @@ variable-by d c bs dollar true e = record {
   within = omega (arith, rest-le bs);
   is =
       let more : 2 + rest_len bs ≡ suc (1 + rest_len bs) = omega arith in
-      rw more (and_from (d == 36) (is_name (take (1 + rest_len bs) (c ∷ bs))) dollar (name-front c bs e));
+      rw more (and_from (d == 36) (is_name (take (1 + rest_len bs) (c ∷ bs))) dollar (name-prefix c bs e));
   most = λ k n within is. (variable-most d c bs k (dollar-class d dollar) n within is).0;
 }
 variable-by d c bs dollar false e = λ k n within is. none-true (starts_name c) e (variable-most d c bs k (dollar-class d dollar) n within is).1
@@ -124,7 +124,7 @@ abbrev begins_pair : ℕ → List ℕ → Bool
 begins_pair a [] = false
 begins_pair a (b ∷ bs) = is_pair a b
 
-abbrev sign_by : Bool → Bool → Option Front
+abbrev sign_by : Bool → Bool → Option Prefix
 sign_by pair one = cond pair (found Sign 2) (cond one (found Sign 1) None)
 
 sign-by : (a : ℕ) (bs : List ℕ) → sign a bs ≡ sign_by (begins_pair a bs) (is_single a)
@@ -140,7 +140,7 @@ lone-sign Number some = absurd (omega arith)
 lone-sign Quoted some = absurd (omega arith)
 lone-sign Sign some = refl
 
--- a front that is a sign is one of the two
+-- a prefix that is a sign is one of the two
 sign-size : (a : ℕ) (bs : List ℕ) (n : ℕ) → n ≤ length (a ∷ bs) → is_among (take n (a ∷ bs)) signs ≡ true → ((n ≡ 1) × (is_single a ≡ true)) ⊎ ((n ≡ 2) × (begins_pair a bs ≡ true))
 sign-size a bs zero within is = none-true false refl is
 sign-size a bs (suc zero) within is = inl (refl, sym (sign-single a) ∙ is)
@@ -150,7 +150,7 @@ sign-size a (b ∷ bs) (suc (suc (suc n))) within is = absurd (omega (arith, sig
 
 token-sign : (a : ℕ) (bs : List ℕ) → 3 < class_of a → (k : Kind) (n : ℕ) → n ≤ length (a ∷ bs) → is_token k (take n (a ∷ bs)) ≡ true → ((n ≡ 1) × (is_single a ≡ true)) ⊎ ((n ≡ 2) × (begins_pair a bs ≡ true))
 token-sign a bs class k n within is =
-    let here = token-front k a bs n is in
+    let here = token-prefix k a bs n is in
     let kind = lone-sign k (omega arith) in
     let token : is_token Sign (take n (a ∷ bs)) ≡ true = subst (λ l. is_token l (take n (a ∷ bs)) ≡ true) kind is in
     sign-size a bs n within token
@@ -199,10 +199,10 @@ name-or-text Sign bytes e is = absurd (omega arith)
 
 token-name : (b : ℕ) (bs : List ℕ) → starts_name b ≡ true → (k : Kind) (n : ℕ) → n ≤ length (b ∷ bs) → is_token k (take n (b ∷ bs)) ≡ true → (n ≤ 1 + rest_len bs) ⊎ (is_text_test (take n (b ∷ bs)) ≡ true)
 token-name b bs starts k n within is =
-    let class = sym (token-front k b bs n is) ∙ name-class b starts in
+    let class = sym (token-prefix k b bs n is) ∙ name-class b starts in
     ⊎_elim (λ name. inl (name-most b bs n within name)) (λ text. inr text) (name-or-text k (take n (b ∷ bs)) class is)
 
--- a front that is `text()` stands there
+-- a prefix that is `text()` stands there
 text-begins : (bytes : List ℕ) (n : ℕ) → n ≤ length bytes → is_text_test (take n bytes) ≡ true → begins_text_test bytes ≡ true
 text-begins bytes n within is =
     let six = text-size bytes n within is in
@@ -231,11 +231,11 @@ text-finds bytes begins =
     or-by (starts_with nat_eq bytes (codes "text()")) (starts_with nat_eq bytes (codes "TEXT()"))
     (λ small.
     let same : codes "text()" ≡ take 6 bytes = (bytes_decides (codes "text()") (take 6 bytes)).0 small in
-    let whole : codes "text()" ++ drop 6 bytes ≡ bytes = ap (λ front. front ++ drop 6 bytes) same ∙ take-append-drop 6 bytes in
+    let whole : codes "text()" ++ drop 6 bytes ≡ bytes = ap (λ prefix. prefix ++ drop 6 bytes) same ∙ take-append-drop 6 bytes in
     subst (λ all. IsLongest all TextTest 6) whole (small-longest (drop 6 bytes)))
     (λ capital.
     let same : codes "TEXT()" ≡ take 6 bytes = (bytes_decides (codes "TEXT()") (take 6 bytes)).0 capital in
-    let whole : codes "TEXT()" ++ drop 6 bytes ≡ bytes = ap (λ front. front ++ drop 6 bytes) same ∙ take-append-drop 6 bytes in
+    let whole : codes "TEXT()" ++ drop 6 bytes ≡ bytes = ap (λ prefix. prefix ++ drop 6 bytes) same ∙ take-append-drop 6 bytes in
     subst (λ all. IsLongest all TextTest 6) whole (capital-longest (drop 6 bytes)))
     begins
 
@@ -251,9 +251,9 @@ named-by : (b : ℕ) (bs : List ℕ) → starts_name b ≡ true → (text word :
 named-by b bs starts true word e f = text-finds (b ∷ bs) e
 named-by b bs starts false true e f = name-longest b bs Word starts e f
 named-by b bs starts false false e f =
-    let front = take (1 + rest_len bs) (b ∷ bs) in
-    let other : not (is_word front) ≡ true = rw f refl in
-    name-longest b bs Name starts e (and_from (is_name front) (not (is_word front)) (name-front b bs starts) other)
+    let prefix = take (1 + rest_len bs) (b ∷ bs) in
+    let other : not (is_word prefix) ≡ true = rw f refl in
+    name-longest b bs Name starts e (and_from (is_name prefix) (not (is_word prefix)) (name-prefix b bs starts) other)
 
 -- All classes.
 
@@ -274,12 +274,12 @@ finds-by b bs false false true dollar n d q v = quoted-by b bs q (nat_lt (inside
 finds-by b bs false false false true n d q v = variable-finds b bs v
 finds-by b bs false false false false n d q v = sign-finds b bs (other-class b n d q v)
 
-pub front_of-finds : (bytes : List ℕ) → Finds bytes (front_of bytes)
-front_of-finds [] = λ k n within is.
+pub prefix_of-finds : (bytes : List ℕ) → Finds bytes (prefix_of bytes)
+prefix_of-finds [] = λ k n within is.
     let none : n ≡ 0 = omega arith in
     none-true (is_token k []) (token-some k) (rw none at is)
-front_of-finds (b ∷ bs) = finds-by b bs (starts_name b) (is_digit b) (is_quote b) (b == 36) refl refl refl refl
+prefix_of-finds (b ∷ bs) = finds-by b bs (starts_name b) (is_digit b) (is_quote b) (b == 36) refl refl refl refl
 
 -- what the program finds, the bytes begin with
-pub finds-front_of : (bytes : List ℕ) (front : Option Front) → front ≡ front_of bytes → Finds bytes front
-finds-front_of bytes front e = subst (λ f. Finds bytes f) (sym e) (front_of-finds bytes)
+pub finds-prefix_of : (bytes : List ℕ) (prefix : Option Prefix) → prefix ≡ prefix_of bytes → Finds bytes prefix
+finds-prefix_of bytes prefix e = subst (λ f. Finds bytes f) (sym e) (prefix_of-finds bytes)

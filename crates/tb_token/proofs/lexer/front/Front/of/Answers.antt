@@ -1,6 +1,0 @@
--- What is found by the first byte, the bytes begin with.
-use Rattle.tb_token.proofs.lexing.FrontLaws.{finds-front_of}
-use Rattle.tb_token.proofs.lexer.front.Front.of.Goals as goal
-
-pub returns : goal.returns
-returns c = finds-front_of c.args.bytes.now c.by_first_byte.result c.by_first_byte.ensures
