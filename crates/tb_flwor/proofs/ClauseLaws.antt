@@ -4,7 +4,7 @@ use Rattle.std.specs.Prelude.{codes}
 use Rattle.tb_token.specs.grammar.Grammar.{Tok, Part, both, maybe, many}
 use Rattle.tb_token.specs.grammar.Words.{Tree, nothing, pair, first, second}
 use Rattle.tb_token.specs.tokens.Letters.{letter_of, place_in}
-use Rattle.tb_token.specs.grammar.Terminals.{word, sign, variable, list_of, comma}
+use Rattle.tb_token.specs.grammar.Terminals.{keyword, sign, variable, list_of, comma}
 use Rattle.tb_token.specs.grammar.Paths.{longpath}
 use Rattle.tb_token.specs.grammar.Queries.{bind, clause}
 use Rattle.tb_token.specs.declared.lexer.token.Kind.TheVariants as kind
@@ -22,22 +22,22 @@ use Rattle.tb_flwor.proofs.RunLaws.{ListSoFar, Puts, list-start, list-next, list
 abbrev Next : List Tok → Tree → Type 0
 Next s v = v ≡ next s
 
-abbrev word_letter : List ℕ → List ℕ
-word_letter text = letter_of kind.Word text ∷ []
+abbrev keyword_letter : List ℕ → List ℕ
+keyword_letter text = letter_of kind.Word text ∷ []
 
 abbrev variable_letter : List ℕ
 variable_letter = letters.VARIABLE ∷ []
 
 -- [ ALLOWING EMPTY ]
 
-pub allowed-there : (s : List Tok) → begins (word_letter (codes "ALLOWING")) s ≡ true → Builds (maybe allowing) (IsAllowed true) s (drop 1 (drop 1 s))
+pub allowed-there : (s : List Tok) → begins (keyword_letter (codes "ALLOWING")) s ≡ true → Builds (maybe allowing) (IsAllowed true) s (drop 1 (drop 1 s))
 allowed-there s e =
     put_in-builds allowing (IsAllowed true) s (drop 1 (drop 1 s)) e
     (builds-as allowing (Both (Next s) (Next (drop 1 s))) (IsAllowed true) s (drop 1 (drop 1 s)) (λ v b. ap is_there b.pair_is)
-    (both-builds (word (codes "ALLOWING")) (word (codes "EMPTY")) (Next s) (Next (drop 1 s)) s (drop 1 s) (drop 1 (drop 1 s))
-    (one-builds (word_letter (codes "ALLOWING")) s) (one-builds (word_letter (codes "EMPTY")) (drop 1 s))))
+    (both-builds (keyword (codes "ALLOWING")) (keyword (codes "EMPTY")) (Next s) (Next (drop 1 s)) s (drop 1 s) (drop 1 (drop 1 s))
+    (one-builds (keyword_letter (codes "ALLOWING")) s) (one-builds (keyword_letter (codes "EMPTY")) (drop 1 s))))
 
-pub allowed-none : (s : List Tok) → begins (word_letter (codes "ALLOWING")) s ≡ false → Builds (maybe allowing) (IsAllowed false) s s
+pub allowed-none : (s : List Tok) → begins (keyword_letter (codes "ALLOWING")) s ≡ false → Builds (maybe allowing) (IsAllowed false) s s
 allowed-none s e = builds-as (maybe allowing) (λ v. v ≡ nothing) (IsAllowed false) s s (λ v f. ap is_there f) (left_out-builds allowing s e)
 
 module _ (names : Names) where
@@ -65,9 +65,9 @@ module _ (names : Names) where
         → Builds bind (Gives (bind_from names) (For (var s) is_empty path_is)) s left
     bind-builds allowed_is longpath_is =
         builds-as bind (Both (Next s) Allowed) (Gives (bind_from names) (For (var s) is_empty path_is)) s left bind-is
-        (both-builds variable (both (maybe allowing) (both (word (codes "IN")) longpath)) (Next s) Allowed s (drop 1 s) left (one-builds variable_letter s)
-        (both-builds (maybe allowing) (both (word (codes "IN")) longpath) (IsAllowed is_empty) In (drop 1 s) mid left allowed_is
-        (both-builds (word (codes "IN")) longpath (Next mid) Longpath mid (drop 1 mid) left (one-builds (word_letter (codes "IN")) mid) longpath_is)))
+        (both-builds variable (both (maybe allowing) (both (keyword (codes "IN")) longpath)) (Next s) Allowed s (drop 1 s) left (one-builds variable_letter s)
+        (both-builds (maybe allowing) (both (keyword (codes "IN")) longpath) (IsAllowed is_empty) In (drop 1 s) mid left allowed_is
+        (both-builds (keyword (codes "IN")) longpath (Next mid) Longpath mid (drop 1 mid) left (one-builds (keyword_letter (codes "IN")) mid) longpath_is)))
 
   -- bind { "," bind }
 
@@ -98,18 +98,18 @@ module _ (names : Names) where
   -- A clause.
 
   abbrev for_part : Part
-  for_part = both (word (codes "FOR")) (list_of comma bind)
+  for_part = both (keyword (codes "FOR")) (list_of comma bind)
 
   abbrev let_part : Part
-  let_part = both (word (codes "LET")) (both variable (both (sign (codes ":=")) longpath))
+  let_part = both (keyword (codes "LET")) (both variable (both (sign (codes ":=")) longpath))
 
-  pub clause-for : (found : List Clause) (s left : List Tok) → begins (word_letter (codes "FOR")) s ≡ true → Builds (list_of comma bind) (AreBinds names found) (drop 1 s) left
+  pub clause-for : (found : List Clause) (s left : List Tok) → begins (keyword_letter (codes "FOR")) s ≡ true → Builds (list_of comma bind) (AreBinds names found) (drop 1 s) left
       → Builds clause (GivesAll (clause_from names) found) s left
   clause-for found s left e binds_are =
       builds-as clause (First (Both (Next s) (AreBinds names found))) (GivesAll (clause_from names) found) s left
       (λ v f behind. ap (λ x. clause_from names x behind) (f.first_is ∙ ap first f.one_is.pair_is) ∙ f.one_is.two_is f.one_is.one behind)
       (first-builds for_part let_part (Both (Next s) (AreBinds names found)) s left e
-      (both-builds (word (codes "FOR")) (list_of comma bind) (Next s) (AreBinds names found) s (drop 1 s) left (one-builds (word_letter (codes "FOR")) s) binds_are))
+      (both-builds (keyword (codes "FOR")) (list_of comma bind) (Next s) (AreBinds names found) s (drop 1 s) left (one-builds (keyword_letter (codes "FOR")) s) binds_are))
 
   module _ (s left : List Tok) (path_is : Path) where
     abbrev Assigned : Tree → Type 0
@@ -118,7 +118,7 @@ module _ (names : Names) where
     abbrev Named : Tree → Type 0
     Named = Both (Next (drop 1 s)) Assigned
 
-    pub clause-let : begins (word_letter (codes "FOR")) s ≡ false → Builds longpath (IsLongpath names path_is) (drop 1 (drop 1 (drop 1 s))) left
+    pub clause-let : begins (keyword_letter (codes "FOR")) s ≡ false → Builds longpath (IsLongpath names path_is) (drop 1 (drop 1 (drop 1 s))) left
         → Builds clause (GivesAll (clause_from names) (Let (var (drop 1 s)) path_is ∷ [])) s left
     clause-let e longpath_is =
         builds-as clause (Second (Both (Next s) Named)) (GivesAll (clause_from names) (Let (var (drop 1 s)) path_is ∷ [])) s left
@@ -128,7 +128,7 @@ module _ (names : Names) where
         let a = n.two_is in
         ap (λ x. clause_from names x behind) (f.second_is ∙ ap second (b.pair_is ∙ ap (λ x. pair b.one x) (n.pair_is ∙ ap (λ x. pair n.one x) a.pair_is))) ∙ rw (n.one_is, a.two_is) refl)
         (second-builds for_part let_part (Both (Next s) Named) s left refl e
-        (both-builds (word (codes "LET")) (both variable (both (sign (codes ":=")) longpath)) (Next s) Named s (drop 1 s) left (one-builds (word_letter (codes "LET")) s)
+        (both-builds (keyword (codes "LET")) (both variable (both (sign (codes ":=")) longpath)) (Next s) Named s (drop 1 s) left (one-builds (keyword_letter (codes "LET")) s)
         (both-builds variable (both (sign (codes ":=")) longpath) (Next (drop 1 s)) Assigned (drop 1 s) (drop 1 (drop 1 s)) left (one-builds variable_letter (drop 1 s))
         (both-builds (sign (codes ":=")) longpath (Next (drop 1 (drop 1 s))) (IsLongpath names path_is) (drop 1 (drop 1 s)) (drop 1 (drop 1 (drop 1 s))) left
         (one-builds (letters.ASSIGN ∷ []) (drop 1 (drop 1 s))) longpath_is))))

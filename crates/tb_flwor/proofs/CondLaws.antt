@@ -5,7 +5,7 @@ use Rattle.tb_token.specs.grammar.Grammar.{Tok, Part, both, either, maybe, many,
 use Rattle.tb_token.specs.grammar.Words.{Tree, leaf, nothing, pair, second, by_one, by_both, by_second}
 use Rattle.tb_token.specs.grammar.Reading.{own_starts}
 use Rattle.tb_token.proofs.grammar.PlaceLaws.{read-both, read-second, read-one}
-use Rattle.tb_token.specs.grammar.Terminals.{word, list_of}
+use Rattle.tb_token.specs.grammar.Terminals.{keyword, list_of}
 use Rattle.tb_token.specs.grammar.Patterns.{cmp, literal}
 use Rattle.tb_token.specs.grammar.Paths.{operand}
 use Rattle.tb_token.specs.grammar.Queries.{rules, cond, where_part}
@@ -90,7 +90,7 @@ module _ (names : Names) where
       ap (λ x. cond_from names x behind) (b.pair_is ∙ ap (λ x. pair b.one x) b.two_is.pair_is) ∙ rw (b.one_is, b.two_is.one_is, b.two_is.two_is) refl)
       (both-builds operand with (IsOperand names l) (Compared mid r) s mid left operand_is (with-builds r mid left right_is))
 
-  -- Conditions behind the word WHERE.
+  -- Conditions behind the keyword WHERE.
 
   abbrev and_letter : List ℕ
   and_letter = letters.AND ∷ []
@@ -99,7 +99,7 @@ module _ (names : Names) where
   where_letter = letters.WHERE ∷ []
 
   abbrev other_cond : Part
-  other_cond = both (word (codes "AND")) cond
+  other_cond = both (keyword (codes "AND")) cond
 
   abbrev pub CondsSoFar : List Comparison → List Comparison → List Tok → List Tok → Type 0
   CondsSoFar = ListSoFar other_cond (more_conds names)
@@ -124,7 +124,7 @@ module _ (names : Names) where
         (λ v b.
         let l = b.two_is in
         ap (conds_of names) (b.pair_is ∙ ap (λ x. pair b.one x) l.pair_is) ∙ l.one_is (more_conds names l.two) ∙ l.two_is)
-        (both-builds (word (codes "WHERE")) (list_of (word (codes "AND")) cond) (Next s) Listed s (drop 1 s) left (one-builds where_letter s)
+        (both-builds (keyword (codes "WHERE")) (list_of (keyword (codes "AND")) cond) (Next s) Listed s (drop 1 s) left (one-builds where_letter s)
         (behind-end cond (cond_from names) (more_conds names) and_letter is found (drop 1 s) mid left refl f gives far)))
 
   pub conds-none : (s : List Tok) → begins where_letter s ≡ false → Builds (maybe where_part) (AreConds names []) s s

@@ -58,7 +58,7 @@ nested-beside = refl
 abbrev wrong_in : List ℕ → Option ℕ
 wrong_in text = first_wrong_tag (toks text)
 
--- names compare by bytes, with case, whether they are words or not
+-- names compare by bytes, with case, whether they are keywords or not
 pub wrong-case : wrong_in (codes "<a></A>") ≡ Some 5
 wrong-case = refl
 

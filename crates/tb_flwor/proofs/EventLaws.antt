@@ -7,7 +7,7 @@ use Rattle.tb_token.specs.grammar.Words.{Tree, leaf, pair, first, second, Derive
 use Rattle.tb_token.specs.grammar.Decided.{are_apart}
 use Rattle.tb_token.proofs.grammar.LetterLaws.{none-true, has-left, has-right, apart-none}
 use Rattle.tb_token.specs.tokens.Letters.{letter_of}
-use Rattle.tb_token.specs.grammar.Terminals.{word, sign, name, string, comma}
+use Rattle.tb_token.specs.grammar.Terminals.{keyword, sign, name, string, comma}
 use Rattle.tb_token.specs.grammar.Patterns.{literal}
 use Rattle.tb_token.specs.grammar.Paths.{step, steps, longpath, path, operand}
 use Rattle.tb_token.specs.grammar.Results.{cons, braced, attr, piece, cons_rest, back}
@@ -238,7 +238,7 @@ bound-here t s h f =
     ap (λ x. cond x (event_at 0 t s ∷ raw t.letter s) (raw t.letter s)) (is-var t h) ∙ ap (λ x. cond x (event.binds t) (event.uses t) ∷ raw t.letter s) f
     ∙ ap (λ x. event.binds t ∷ x) (raw-before t.letter s (var-behind t h))
 
--- a word or sign behind which the path of a binding begins
+-- a keyword or sign behind which the path of a binding begins
 own-here : (es : List Event) (c : List ℕ) (t : Tok) (w : Tree) → are_apart c vars ≡ true → (has c t.letter ≡ true → begins_path t.letter ≡ true) → has c t.letter ≡ true → HasOwn es w
     → (rest : List Tok) → Free rest → raw 0 (t ∷ tokens_of w ++ rest) ≡ es ++ raw 0 rest
 own-here es c t w apart opens h f rest e =
@@ -320,7 +320,7 @@ cond-has (of_both {v = l} f (of_both {w = r} (of_one {c = c} {t = t} h) g)) =
     has-pair (in_operand l) (in_right r) l (pair (leaf t) r) (operand-has f) (lead-pair (in_right r) c t r refl refl h (right-has g)) (free-first c t r refl refl h)
 
 abbrev and_cond : Part
-and_cond = both (word (codes "AND")) part.cond
+and_cond = both (keyword (codes "AND")) part.cond
 
 conds-free : {v : Tree} → Of (many and_cond) v → IsFree v
 conds-free of_none = λ rest e. e
@@ -393,7 +393,7 @@ ends-lead es c t w apart other h f rest = lead c t (tokens_of w ++ rest) apart o
 one-ends : {c : List ℕ} {v : Tree} → Of (one c) v → are_apart c vars ≡ true → are_apart c openers ≡ true → Ends [] v
 one-ends (of_one {c = c} {t = t} h) apart other rest = lead c t rest apart other h
 
--- a name, whatever word it is, where no variable follows
+-- a name, whatever keyword it is, where no variable follows
 name-lead : (es : List Event) (c : List ℕ) (t : Tok) (w : Tree) → are_apart c vars ≡ true → has c t.letter ≡ true → ((rest : List Tok) → var_first (tokens_of w ++ rest) ≡ false) → Ends es w
     → Ends es (pair (leaf t) w)
 name-lead es c t w apart h none f rest =

@@ -3,7 +3,7 @@ use Rattle.std.proofs.Common.{◌≡◌, ℕ, List, [], ◌∷◌, drop, sym, ap
 use Rattle.std.specs.Prelude.{codes}
 use Rattle.tb_token.specs.grammar.Grammar.{Tok, Part, both, maybe, many}
 use Rattle.tb_token.specs.grammar.Words.{Tree, pair}
-use Rattle.tb_token.specs.grammar.Terminals.{word}
+use Rattle.tb_token.specs.grammar.Terminals.{keyword}
 use Rattle.tb_token.specs.grammar.Queries.{clause, where_part, group, order, flwor}
 use Rattle.tb_token.specs.grammar.Results.{back}
 use Rattle.tb_token.specs.tokens.LetterNames as letters
@@ -22,7 +22,7 @@ return_letter = letters.RETURN ∷ []
 
 module _ (names : Names) (q : query.Flwor) (s l1 l2 l3 l4 l5 : List Tok) (clauses_are : BuildsClauses names q.clauses s l1) where
   abbrev returned : Part
-  returned = both (word (codes "RETURN")) back
+  returned = both (keyword (codes "RETURN")) back
 
   abbrev ordered : Part
   ordered = both (maybe order) returned
@@ -78,4 +78,4 @@ module _ (names : Names) (q : query.Flwor) (s l1 l2 l3 l4 l5 : List Tok) (clause
       (both-builds (maybe where_part) grouped (AreConds names q.conds) Grouped l1 l2 l5 conds_are
       (both-builds (maybe group) ordered (IsGroup names q.group) Ordered l2 l3 l5 group_is
       (both-builds (maybe order) returned (AreKeys names q.keys) Returned l3 l4 l5 keys_are
-      (both-builds (word (codes "RETURN")) back (Next l4) (IsBack names q.back) l4 (drop 1 l4) l5 (one-builds return_letter l4) back_is))))))
+      (both-builds (keyword (codes "RETURN")) back (Next l4) (IsBack names q.back) l4 (drop 1 l4) l5 (one-builds return_letter l4) back_is))))))

@@ -4,7 +4,7 @@ use Rattle.std.specs.Prelude.{codes}
 use Rattle.tb_token.specs.grammar.Grammar.{Tok, Part, both, either, many}
 use Rattle.tb_token.specs.grammar.Words.{Tree, leaf, nothing, pair, first, second}
 use Rattle.tb_token.specs.tokens.Letters.{letter_of, place_in}
-use Rattle.tb_token.specs.grammar.Terminals.{word, sign, string, variable}
+use Rattle.tb_token.specs.grammar.Terminals.{keyword, sign, string, variable}
 use Rattle.tb_token.specs.grammar.Patterns.{doc, axis, test}
 use Rattle.tb_token.specs.grammar.Paths.{step, steps, longpath, path}
 use Rattle.tb_token.specs.declared.lexer.token.Kind.TheVariants as kind
@@ -95,7 +95,7 @@ module _ (s : List Tok) where
       builds-as doc (Both (Next s) Open) (IsDocument name) s (drop 1 s3)
       (λ v b. ap document_in (b.pair_is ∙ ap (λ x. pair b.one x) (b.two_is.pair_is ∙ ap (λ x. pair b.two_is.one x) b.two_is.two_is.pair_is))
       ∙ ap (λ x. inside (bytes_in x)) b.two_is.two_is.one_is)
-      (both-builds (word (codes "DOCUMENT")) (both (sign (codes "(")) (both string (sign (codes ")")))) (Next s) Open s s1 (drop 1 s3) (one-builds doc_letter s)
+      (both-builds (keyword (codes "DOCUMENT")) (both (sign (codes "(")) (both string (sign (codes ")")))) (Next s) Open s s1 (drop 1 s3) (one-builds doc_letter s)
       (both-builds (sign (codes "(")) (both string (sign (codes ")"))) (Next s1) Close s1 s2 (drop 1 s3) (one-builds (letter (codes "(")) s1)
       (both-builds string (sign (codes ")")) (Next s2) (Next s3) s2 s3 (drop 1 s3) (one-builds (letters.QUOTED ∷ []) s2) (one-builds (letter (codes ")")) s3))))
 

@@ -39,7 +39,7 @@ query-comes s is fine digits = record { parts = read-query s is; digits = digits
 swapped : (x y : ℕ) → (x == y) ≡ (y == x || false)
 swapped x y = grind arith
 
--- the word MATCH is the first token of a `MATCH` query, and of no other
+-- the keyword MATCH is the first token of a `MATCH` query, and of no other
 match-starts : (t : Tok) (u : List Tok) → is_match (t ∷ u) ≡ has (own_starts match_query) t.letter
 match-starts t u = swapped t.letter letters.MATCH
 

@@ -1,5 +1,5 @@
--- The tokens behind the word RETURN are those of what the tree returns: in the clauses before it every
--- other such word is a name, directly behind an axis or `@`.
+-- The tokens behind the keyword RETURN are those of what the tree returns: in the clauses before it every
+-- other such keyword is a name, directly behind an axis or `@`.
 use Rattle.std.proofs.Common.{◌≡◌, ℕ, true, false, cond, ◌&&◌, ◌||◌, ◌==◌, not, List, [], ◌∷◌, ◌++◌, refl, ap, ◌∙◌, append_assoc, append-nil}
 use Rattle.std.specs.Prelude.{codes}
 use Rattle.std.proofs.lemmas.Bool.{and_parts, or_parts}
@@ -7,7 +7,7 @@ use Rattle.tb_token.specs.grammar.Grammar.{Tok, Part, both, either, maybe, many,
 use Rattle.tb_token.specs.grammar.Words.{Tree, leaf, pair}
 use Rattle.tb_token.specs.grammar.Decided.{are_apart}
 use Rattle.tb_token.proofs.grammar.LetterLaws.{none-true, and-false, has-left, has-right, apart-none}
-use Rattle.tb_token.specs.grammar.Terminals.{word, comma}
+use Rattle.tb_token.specs.grammar.Terminals.{keyword, comma}
 use Rattle.tb_token.specs.grammar.Patterns.{test, literal}
 use Rattle.tb_token.specs.grammar.Paths.{step, steps, longpath, path, operand}
 use Rattle.tb_token.specs.grammar.Queries.{rules, query, flwor, bind, clause, where_part, group, key, order}
@@ -19,7 +19,7 @@ use Rattle.tb_flwor.specs.Constructors.{before_name, behind_return, results}
 use Rattle.tb_flwor.specs.Returned.{tokens_of, back_tree, ResultsAgree}
 use Rattle.tb_flwor.proofs.TokenLaws.{tokens-derived, swapped, only-letter, second-of}
 
--- Before a name every word is a name.
+-- Before a name every keyword is a name.
 
 abbrev name_signs : List ℕ
 name_signs = letters.SLASH ∷ letters.DOUBLE_SLASH ∷ letters.AT ∷ []
@@ -42,7 +42,7 @@ CalmName v = (b : ℕ) (rest : List Tok) → before_name b ≡ true → behind_r
 calm-pair : (v w : Tree) → Calm v → Calm w → Calm (pair v w)
 calm-pair v w f g rest = ap (behind_return 0) (append_assoc (tokens_of v) (tokens_of w) rest) ∙ f (tokens_of w ++ rest) ∙ g rest
 
--- a token that is neither the word nor a sign before names
+-- a token that is neither the keyword nor a sign before names
 calm-leaf : (c : List ℕ) (t : Tok) → are_apart c special ≡ true → has c t.letter ≡ true → Calm (leaf t)
 calm-leaf c t apart h rest =
     let none = or_parts (letters.RETURN == t.letter) (has name_signs t.letter) (apart-none c special t.letter apart h) in
@@ -62,7 +62,7 @@ quiet of_none e = λ rest. refl
 quiet (of_more {v = v} {w = w} f g) e = calm-pair v w (quiet f e) (quiet g e)
 quiet (of_rule h f) e = none-true false refl e
 
--- a name, whatever word it is
+-- a name, whatever keyword it is
 name-leaf : (c : List ℕ) (t : Tok) → are_apart c name_signs ≡ true → has c t.letter ≡ true → CalmName (leaf t)
 name-leaf c t apart h b rest e =
     ap (λ x. cond (t.letter == letters.RETURN && not x) rest (behind_return t.letter rest)) e
@@ -138,7 +138,7 @@ right-calm (of_second f) = quiet f refl
 cond-calm : {v : Tree} → Of part.cond v → Calm v
 cond-calm (of_both {v = a} {w = b} f (of_both {v = c} {w = e} g k)) = calm-pair a b (operand-calm f) (calm-pair c e (quiet g refl) (right-calm k))
 
-more-conds : {v : Tree} → Of (many (both (word (codes "AND")) part.cond)) v → Calm v
+more-conds : {v : Tree} → Of (many (both (keyword (codes "AND")) part.cond)) v → Calm v
 more-conds of_none = λ rest. refl
 more-conds (of_more {w = w} (of_both {v = a} {w = b} f g) k) = calm-pair (pair a b) w (calm-pair a b (quiet f refl) (cond-calm g)) (more-conds k)
 
@@ -163,7 +163,7 @@ order-calm of_nothing = λ rest. refl
 order-calm (of_put (of_both {v = a} {w = b} f (of_both {v = c} {w = e} g (of_both {v = m} {w = n} h k)))) =
     calm-pair a b (quiet f refl) (calm-pair c e (quiet g refl) (calm-pair m n (key-calm h) (more-keys k)))
 
--- The word RETURN itself, behind all of these.
+-- The keyword RETURN itself, behind all of these.
 
 return-here : (t : Tok) (s : List Tok) → (t.letter == letters.RETURN) ≡ true → behind_return 0 (t ∷ s) ≡ s
 return-here t s e = ap (λ x. cond (x && true) s (behind_return t.letter s)) e

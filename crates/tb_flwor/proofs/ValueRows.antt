@@ -25,8 +25,8 @@ tok k bytes = leaf (record { letter = letter_of k bytes; bytes = bytes; number =
 abbrev sign : List ℕ → Tree
 sign text = tok kind.Sign text
 
-abbrev word : List ℕ → Tree
-word text = tok kind.Word text
+abbrev keyword : List ℕ → Tree
+keyword text = tok kind.Word text
 
 abbrev x_and_y : Names
 x_and_y = codes "$x" ∷ codes "$y" ∷ []
@@ -39,7 +39,7 @@ y = tok kind.Variable (codes "$y")
 
 -- `document("d")`
 abbrev d : Tree
-d = pair (word (codes "document")) (pair (sign (codes "(")) (pair (tok kind.Quoted (codes "\"d\"")) (sign (codes ")"))))
+d = pair (keyword (codes "document")) (pair (sign (codes "(")) (pair (tok kind.Quoted (codes "\"d\"")) (sign (codes ")"))))
 
 -- `/a` and `//@b`
 abbrev a_step : Tree
@@ -76,18 +76,18 @@ abbrev bare_tree : Tree
 bare_tree = second (pair x nothing)
 
 -- `sum($x)`
-pub summed : operand_of x_and_y (second (pair (word (codes "sum")) (pair (sign (codes "(")) (pair bare_tree (sign (codes ")")))))) ≡ operand.Agg Sum bare
+pub summed : operand_of x_and_y (second (pair (keyword (codes "sum")) (pair (sign (codes "(")) (pair bare_tree (sign (codes ")")))))) ≡ operand.Agg Sum bare
 summed = refl
 
 -- `FOR $x IN document("d")/a, $y ALLOWING EMPTY IN document("d")/a`
 pub bound-by-for : clause_from x_and_y
-    (first (pair (word (codes "FOR")) (pair (pair x (pair nothing (pair (word (codes "IN")) (pair (first d) (pair a_step nothing)))))
-    (pair (pair (sign (codes ",")) (pair y (pair (pair (word (codes "ALLOWING")) (word (codes "EMPTY"))) (pair (word (codes "IN")) (pair (first d) (pair a_step nothing)))))) nothing)))) []
+    (first (pair (keyword (codes "FOR")) (pair (pair x (pair nothing (pair (keyword (codes "IN")) (pair (first d) (pair a_step nothing)))))
+    (pair (pair (sign (codes ",")) (pair y (pair (pair (keyword (codes "ALLOWING")) (keyword (codes "EMPTY"))) (pair (keyword (codes "IN")) (pair (first d) (pair a_step nothing)))))) nothing)))) []
     ≡ For 0 false from_d ∷ For 1 true from_d ∷ []
 bound-by-for = refl
 
 -- `LET $y := document("d")/a`
-pub bound-by-let : clause_from x_and_y (second (pair (word (codes "LET")) (pair y (pair (sign (codes ":=")) (pair (first d) (pair a_step nothing)))))) []
+pub bound-by-let : clause_from x_and_y (second (pair (keyword (codes "LET")) (pair y (pair (sign (codes ":=")) (pair (first d) (pair a_step nothing)))))) []
     ≡ Let 1 from_d ∷ []
 bound-by-let = refl
 
@@ -97,12 +97,12 @@ pub compared : cond_from x_and_y (pair (first bare_tree) (pair (sign (codes "<")
 compared = refl
 
 -- `GROUP BY $y := $x`
-pub grouped : group_of x_and_y (pair (word (codes "GROUP")) (pair (word (codes "BY")) (pair y (pair (sign (codes ":=")) bare_tree))))
+pub grouped : group_of x_and_y (pair (keyword (codes "GROUP")) (pair (keyword (codes "BY")) (pair y (pair (sign (codes ":=")) bare_tree))))
     ≡ Some (record { var = 1; path = bare })
 grouped = refl
 
 -- `$x DESCENDING`, and `$x` alone
-pub turned : key_from x_and_y (pair (first bare_tree) (word (codes "DESCENDING"))) [] ≡ record { operand = operand.Nodes bare; descending = true } ∷ []
+pub turned : key_from x_and_y (pair (first bare_tree) (keyword (codes "DESCENDING"))) [] ≡ record { operand = operand.Nodes bare; descending = true } ∷ []
 turned = refl
 
 pub plain-key : key_from x_and_y (pair (first bare_tree) nothing) [] ≡ record { operand = operand.Nodes bare; descending = false } ∷ []

@@ -4,7 +4,7 @@ use Rattle.tb_token.specs.grammar.Grammar.{Tok, Part, one, both, either, many, r
 use Rattle.tb_token.specs.grammar.Words.{Tree, pair, first}
 use Rattle.tb_token.specs.tokens.Letters.{letter_of}
 use Rattle.tb_token.specs.declared.lexer.token.Kind.TheVariants.{Word}
-use Rattle.tb_token.specs.grammar.Terminals.{word, sign, name}
+use Rattle.tb_token.specs.grammar.Terminals.{keyword, sign, name}
 use Rattle.tb_token.specs.grammar.Queries.{clause, query}
 use Rattle.tb_token.specs.grammar.Results as results
 use Rattle.tb_pattern.specs.Value.{is_there, bytes_in}
@@ -79,7 +79,7 @@ IsRight names is v = value.right_of names v ≡ is
 
 -- ALLOWING EMPTY
 abbrev pub allowing : Part
-allowing = both (word (codes "ALLOWING")) (word (codes "EMPTY"))
+allowing = both (keyword (codes "ALLOWING")) (keyword (codes "EMPTY"))
 
 -- whether it is there
 abbrev pub IsAllowed : Bool → Tree → Type 0
@@ -113,7 +113,7 @@ direction = one (map (letter_of Word) (codes "ASCENDING" ∷ codes "DESCENDING" 
 
 -- whether the order is turned round
 abbrev pub IsTurned : Bool → Tree → Type 0
-IsTurned is v = value.is_word (codes "DESCENDING") v ≡ is
+IsTurned is v = value.is_keyword (codes "DESCENDING") v ≡ is
 
 abbrev pub AreKeys : Names → List Key → Tree → Type 0
 AreKeys names are v = value.keys_of names v ≡ are

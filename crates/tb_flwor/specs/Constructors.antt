@@ -1,4 +1,4 @@
--- The constructors of a query of clauses, over the tokens behind its word RETURN: there each `<`
+-- The constructors of a query of clauses, over the tokens behind its keyword RETURN: there each `<`
 -- begins one, `/>` and `</` end it, and an attribute's name is the token directly before `=`.
 use Rattle.std.specs.Prelude.{ℕ, Bool, false, ◌&&◌, ◌==◌, not, if◌then◌else◌, List, [], ◌∷◌, ◌++◌, Option, Some, None}
 use Rattle.std.specs.List.{list_any}
@@ -7,11 +7,11 @@ use Rattle.tb_token.specs.grammar.Grammar.{Tok, has}
 use Rattle.tb_token.specs.tokens.Nesting.{is_too_nested}
 use Rattle.tb_token.specs.tokens.LetterNames as letters
 
--- an axis or `@`, behind which every word is a name
+-- an axis or `@`, behind which every keyword is a name
 abbrev pub before_name : ℕ → Bool
 before_name x = has (letters.SLASH ∷ letters.DOUBLE_SLASH ∷ letters.AT ∷ []) x
 
--- what stands behind the word RETURN, where the token before is of that letter
+-- what stands behind the keyword RETURN, where the token before is of that letter
 abbrev pub behind_return : ℕ → List Tok → List Tok
 behind_return before [] = []
 behind_return before (t ∷ s) =

@@ -48,7 +48,7 @@ in_operand _ = []
 
 -- VARIABLE [ ALLOWING EMPTY ] IN longpath
 abbrev pub in_bind : Tree → List Event
-in_bind (pair v (pair e (pair word p))) = bound_by v ++ in_longpath p
+in_bind (pair v (pair e (pair keyword p))) = bound_by v ++ in_longpath p
 in_bind _ = []
 
 -- { "," bind }
@@ -58,8 +58,8 @@ in_binds _ = []
 
 -- FOR bind { "," bind } | LET VARIABLE ":=" longpath
 abbrev pub in_clause : Tree → List Event
-in_clause (first (pair word (pair b rest))) = in_bind b ++ in_binds rest
-in_clause (second (pair word (pair v (pair sign p)))) = bound_by v ++ in_longpath p
+in_clause (first (pair keyword (pair b rest))) = in_bind b ++ in_binds rest
+in_clause (second (pair keyword (pair v (pair sign p)))) = bound_by v ++ in_longpath p
 in_clause _ = []
 
 -- { clause }
@@ -79,17 +79,17 @@ in_cond _ = []
 
 -- { AND cond }
 abbrev pub in_more_conds : Tree → List Event
-in_more_conds (pair (pair word c) rest) = in_cond c ++ in_more_conds rest
+in_more_conds (pair (pair keyword c) rest) = in_cond c ++ in_more_conds rest
 in_more_conds _ = []
 
 -- [ WHERE cond { AND cond } ]
 abbrev pub in_conds : Tree → List Event
-in_conds (pair word (pair c rest)) = in_cond c ++ in_more_conds rest
+in_conds (pair keyword (pair c rest)) = in_cond c ++ in_more_conds rest
 in_conds _ = []
 
 -- [ GROUP BY VARIABLE ":=" path ]
 abbrev pub in_group : Tree → List Event
-in_group (pair word (pair by (pair v (pair sign p)))) = bound_by v ++ in_own_path p
+in_group (pair keyword (pair by (pair v (pair sign p)))) = bound_by v ++ in_own_path p
 in_group _ = []
 
 -- operand [ ASCENDING | DESCENDING ]
@@ -104,7 +104,7 @@ in_more_keys _ = []
 
 -- [ ORDER BY key { "," key } ]
 abbrev pub in_keys : Tree → List Event
-in_keys (pair word (pair by (pair k rest))) = in_key k ++ in_more_keys rest
+in_keys (pair keyword (pair by (pair k rest))) = in_key k ++ in_more_keys rest
 in_keys _ = []
 
 -- "{" operand "}"
@@ -156,7 +156,7 @@ in_back _ = []
 
 -- clause { clause } [ where ] [ group ] [ order ] RETURN back
 abbrev pub in_flwor : Tree → List Event
-in_flwor (pair c (pair more (pair w (pair g (pair o (pair word b)))))) =
+in_flwor (pair c (pair more (pair w (pair g (pair o (pair keyword b)))))) =
     in_clause c ++ (in_clauses more ++ (in_conds w ++ (in_group g ++ (in_keys o ++ in_back b))))
 in_flwor _ = []
 

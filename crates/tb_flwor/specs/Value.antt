@@ -31,7 +31,7 @@ var_in names v = place_in (bytes_in v) names
 
 -- DOCUMENT "(" STRING ")"
 abbrev pub document_in : Tree → List ℕ
-document_in (pair word (pair opening (pair string closing))) = inside (bytes_in string)
+document_in (pair keyword (pair opening (pair string closing))) = inside (bytes_in string)
 document_in _ = []
 
 -- axis test
@@ -67,15 +67,15 @@ longpath_of names (pair (first d) steps) = from_document d (steps_of steps)
 longpath_of names (pair (second v) steps) = from_variable names v (steps_of steps)
 longpath_of names _ = from_document nothing []
 
-abbrev pub is_word : List ℕ → Tree → Bool
-is_word text v = letter_in v == letter_of kind.Word text
+abbrev pub is_keyword : List ℕ → Tree → Bool
+is_keyword text v = letter_in v == letter_of kind.Word text
 
 -- COUNT | SUM | MIN | MAX
 abbrev pub agg_of : Tree → AggKind
 agg_of v =
-    if is_word (codes "SUM") v then agg.Sum
-    else (if is_word (codes "MIN") v then agg.Min
-    else (if is_word (codes "MAX") v then agg.Max else agg.Count))
+    if is_keyword (codes "SUM") v then agg.Sum
+    else (if is_keyword (codes "MIN") v then agg.Min
+    else (if is_keyword (codes "MAX") v then agg.Max else agg.Count))
 
 -- path | agg "(" path ")"
 abbrev pub operand_of : Names → Tree → Operand
@@ -86,7 +86,7 @@ operand_of names _ = operand.Nodes (from_document nothing [])
 
 -- VARIABLE [ ALLOWING EMPTY ] IN longpath
 abbrev pub bind_from : Names → Tree → List Clause → List Clause
-bind_from names (pair v (pair e (pair word p))) behind =
+bind_from names (pair v (pair e (pair keyword p))) behind =
     For (var_in names v) (is_there e) (longpath_of names p) ∷ behind
 bind_from names _ behind = behind
 
@@ -97,9 +97,9 @@ more_binds names _ = []
 
 -- FOR bind { "," bind } | LET VARIABLE ":=" longpath
 abbrev pub clause_from : Names → Tree → List Clause → List Clause
-clause_from names (first (pair word (pair b rest))) behind =
+clause_from names (first (pair keyword (pair b rest))) behind =
     bind_from names b (more_binds names rest) ++ behind
-clause_from names (second (pair word (pair v (pair sign p)))) behind =
+clause_from names (second (pair keyword (pair v (pair sign p)))) behind =
     Let (var_in names v) (longpath_of names p) ∷ behind
 clause_from names _ behind = behind
 
@@ -122,24 +122,24 @@ cond_from names _ behind = behind
 
 -- { AND cond }
 abbrev pub more_conds : Names → Tree → List Comparison
-more_conds names (pair (pair word c) rest) = cond_from names c (more_conds names rest)
+more_conds names (pair (pair keyword c) rest) = cond_from names c (more_conds names rest)
 more_conds names _ = []
 
 -- [ WHERE cond { AND cond } ]
 abbrev pub conds_of : Names → Tree → List Comparison
-conds_of names (pair word (pair c rest)) = cond_from names c (more_conds names rest)
+conds_of names (pair keyword (pair c rest)) = cond_from names c (more_conds names rest)
 conds_of names _ = []
 
 -- [ GROUP BY VARIABLE ":=" path ]
 abbrev pub group_of : Names → Tree → Option GroupBy
-group_of names (pair word (pair by (pair v (pair sign p)))) =
+group_of names (pair keyword (pair by (pair v (pair sign p)))) =
     Some (record { var = var_in names v; path = path_of names p })
 group_of names _ = None
 
 -- operand [ ASCENDING | DESCENDING ]
 abbrev pub key_from : Names → Tree → List Key → List Key
 key_from names (pair o d) behind =
-    record { operand = operand_of names o; descending = is_word (codes "DESCENDING") d } ∷ behind
+    record { operand = operand_of names o; descending = is_keyword (codes "DESCENDING") d } ∷ behind
 key_from names _ behind = behind
 
 -- { "," key }
@@ -149,5 +149,5 @@ more_keys names _ = []
 
 -- [ ORDER BY key { "," key } ]
 abbrev pub keys_of : Names → Tree → List Key
-keys_of names (pair word (pair by (pair k rest))) = key_from names k (more_keys names rest)
+keys_of names (pair keyword (pair by (pair k rest))) = key_from names k (more_keys names rest)
 keys_of names _ = []

@@ -6,7 +6,7 @@ use Rattle.std.specs.Str.{bytes_eq}
 use Rattle.tb_token.specs.grammar.Grammar.{Tok, has}
 use Rattle.tb_token.specs.tokens.LetterNames as letters
 
--- the tokens begin with the word MATCH
+-- the tokens begin with the keyword MATCH
 abbrev pub is_match : List Tok → Bool
 is_match [] = false
 is_match (t ∷ s) = t.letter == letters.MATCH

@@ -14,7 +14,7 @@ use tb_token::letters::{
 };
 use tb_token::{Lexeme, is_too_nested};
 
-/// The tokens behind the word RETURN.
+/// The tokens behind the keyword RETURN.
 pub fn results<'t, 'a>(tokens: &'t [Lexeme<'a>]) -> &'t [Lexeme<'a>]
     ensures { result.now ≡ constructors.results tokens.now }
 {

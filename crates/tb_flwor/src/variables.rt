@@ -10,7 +10,7 @@ use std::alloc::{AllocError, Global};
 use tb_token::Lexeme;
 use tb_token::letters::{ALLOWING, ASSIGN, FOR, IN, MATCH, VARIABLE, has};
 
-/// Whether the tokens begin with the word MATCH.
+/// Whether the tokens begin with the keyword MATCH.
 pub fn is_match(tokens: &[Lexeme]) -> bool
     ensures { result ≡ variables.is_match tokens.now }
 {

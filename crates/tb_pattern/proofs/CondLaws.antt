@@ -9,7 +9,7 @@ use Rattle.tb_token.proofs.grammar.LetterLaws.{none-true, has-only}
 use Rattle.tb_number.specs.IntText.{signed, number_of}
 use Rattle.tb_number.specs.Range.{is_in_range, within_range}
 use Rattle.tb_token.specs.tokens.Kinds.{is_number}
-use Rattle.tb_token.specs.grammar.Terminals.{word, sign, number, string}
+use Rattle.tb_token.specs.grammar.Terminals.{keyword, sign, number, string}
 use Rattle.tb_token.specs.grammar.Patterns.{cmp, literal, conds}
 use Rattle.tb_token.specs.grammar.Queries.{rules}
 use Rattle.tb_pattern.specs.Faults.{is_none, literal_in}
@@ -166,7 +166,7 @@ pub conds-next : (found : List Cond) (c : Cond) (s mid left : List Tok) → begi
     → length left ≤ length (drop 1 mid) → CondsSoFar (found ++ c ∷ []) s left
 conds-next found c s mid left e so_far is shorter = record {
   built = list-next and_letter one_cond conds_from more_conds_of (λ others. found ++ others) (λ others. c ∷ others) (λ others. (found ++ c ∷ []) ++ others) (drop 1 s) mid left
-      (λ word v w. refl) (λ others. sym (append_assoc found (c ∷ []) others)) e so_far.built is;
+      (λ keyword v w. refl) (λ others. sym (append_assoc found (c ∷ []) others)) e so_far.built is;
   shorter = let before = so_far.shorter in omega (arith, length-drop 1 mid);
 }
 
@@ -177,7 +177,7 @@ abbrev closing : List ℕ
 closing = letters.CLOSE_CONDS ∷ []
 
 abbrev inner : Part
-inner = both one_cond (many (both (word (codes "AND")) one_cond))
+inner = both one_cond (many (both (keyword (codes "AND")) one_cond))
 
 pub conds-end : (found : List Cond) (s left : List Tok) → begins opening s ≡ true → begins and_letter left ≡ false → CondsSoFar found s left
     → Builds (maybe conds) (AreConds found) s (drop 1 left)

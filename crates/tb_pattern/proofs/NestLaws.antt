@@ -156,8 +156,8 @@ mutual
   below-open (of_put f) depth rest = edges-open f depth rest
 
 match-open : {v : Tree} → Of match_query v → most_open 0 (leaves v []) ≡ levels (pattern_of v)
-match-open (of_both {w = from_doc} word (of_both {w = below} (of_both {w = from_name} doc (of_both (of_one {t = t} h) (of_both {v = name} string (of_one {t = u} close)))) es)) =
-    let word_is = quiet-open word refl 0 (leaves from_doc []) in
+match-open (of_both {w = from_doc} keyword (of_both {w = below} (of_both {w = from_name} doc (of_both (of_one {t = t} h) (of_both {v = name} string (of_one {t = u} close)))) es)) =
+    let keyword_is = quiet-open keyword refl 0 (leaves from_doc []) in
     let doc_is = quiet-open doc refl 0 (leaves from_name (leaves below [])) in
     let opening = letter-opens 0 t.letter (leaves name (u.letter ∷ leaves below [])) h in
     let name_is = quiet-open string refl 1 (u.letter ∷ leaves below []) in

@@ -48,7 +48,7 @@ agree : Agree is_first match_rules rules
 agree = record { same = same-rules; within = first-calls }
 
 match-read : (s : List Tok) (wrong : Option ℕ) → FirstWrong match_rules match_query s wrong → FirstWrong rules match_query s wrong
-match-read s None word = word-by is_first match_rules rules agree (match_query ∷ []) (refl, tt) s word
+match-read s None keyword = word-by is_first match_rules rules agree (match_query ∷ []) (refl, tt) s keyword
 match-read s (Some k) wrong = wrong-by is_first match_rules rules agree (match_query ∷ []) (refl, tt) s k wrong
 
 pub if-read : {E : Type 0} (o : Result (Option ℕ) E) (g : Grammar) (s : List Tok) → IfOk o (IsRead g s) → Says g match_rules match_query → IfOk o (FirstWrong rules match_query s)

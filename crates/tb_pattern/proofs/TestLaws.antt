@@ -103,8 +103,8 @@ mutual
   below-nodes (of_put f) = edges-nodes f
 
 match-nodes : {v : Tree} → Of match_query v → axes v ≡ nodes_in (pattern_of v)
-match-nodes (of_both word (of_both doc es)) =
-    let word_is = quiet-none word refl in
+match-nodes (of_both keyword (of_both doc es)) =
+    let keyword_is = quiet-none keyword refl in
     let doc_is = quiet-none doc refl in
     let edges_is = edges-nodes es in
     omega arith

@@ -80,7 +80,7 @@ conds_from _ behind = behind
 
 -- { AND cmp literal }
 abbrev pub more_conds_of : Tree → List Cond
-more_conds_of (pair (pair word v) rest) = conds_from v (more_conds_of rest)
+more_conds_of (pair (pair keyword v) rest) = conds_from v (more_conds_of rest)
 more_conds_of _ = []
 
 -- [ "[" cmp literal { AND cmp literal } "]" ]
@@ -113,12 +113,12 @@ abbrev mutual
 
 -- MATCH DOCUMENT "(" STRING ")" edges
 abbrev pub document_of : Tree → List ℕ
-document_of (pair word (pair (pair doc (pair opening (pair string closing))) below)) =
+document_of (pair keyword (pair (pair doc (pair opening (pair string closing))) below)) =
     inside (bytes_in string)
 document_of _ = []
 
 abbrev pub pattern_of : Tree → PlainEdges
-pattern_of (pair word (pair doc below)) = edges_in below
+pattern_of (pair keyword (pair doc below)) = edges_in below
 pattern_of _ = no_edges
 
 -- the tokens are a `MATCH` query that asks this of the document of this name

@@ -3,7 +3,7 @@
 
 use tb_token::{Part, letters};
 
-// NAME, or any word in its place
+// NAME, or any keyword in its place
 pub const NAME: Part = Part::One(letters::NAMES);
 
 const NUMBER: Part = Part::One(&[letters::NUMBER]);

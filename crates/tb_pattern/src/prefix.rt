@@ -26,7 +26,7 @@ pub fn begins(tokens: &[Lexeme], letters: &[u8]) -> bool
     }
 }
 
-/// Whether the next token is a name or a word.
+/// Whether the next token is a name or a keyword.
 pub fn begins_name(tokens: &[Lexeme]) -> bool
     ensures { result ≡ built.begins letters.NAMES tokens.now }
 {

@@ -6,7 +6,7 @@ use Rattle.tb_token.specs.grammar.Grammar.{Part, one, both, either, maybe, many,
 use Rattle.tb_token.specs.grammar.Words.{IsWrongAt}
 use Rattle.tb_token.proofs.grammar.ReadLaws.{read-wrong}
 use Rattle.tb_token.specs.tokens.Kinds.{signs}
-use Rattle.tb_token.specs.tokens.Names.{words}
+use Rattle.tb_token.specs.tokens.Names.{keywords}
 use Rattle.tb_token.specs.grammar.Queries.{rules, follow, query}
 use Rattle.tb_token.proofs.grammar.QueryLaws.{readable}
 use Rattle.tb_token.proofs.grammar.QueryRows.{toks, wrong_at}
@@ -24,9 +24,9 @@ letters (opened c n) = c
 abbrev is_letter : ℕ → Bool
 is_letter x =
     nat_lt x 5 || (nat_le 8 x && nat_lt x (8 + length signs))
-    || (nat_le 64 x && nat_lt x (64 + length words))
+    || (nat_le 64 x && nat_lt x (64 + length keywords))
 
--- so no text of a word or of a sign is misspelt in the grammar
+-- so no text of a keyword or of a sign is misspelt in the grammar
 pub letters-known : list_all is_letter (letters query ++ letters (rules 0) ++ letters (rules 1)) ≡ true
 letters-known = refl
 

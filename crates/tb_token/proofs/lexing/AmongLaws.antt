@@ -6,7 +6,7 @@ use Rattle.std.specs.Cmp.Lexicographic.{bytes_decides}
 use Rattle.std.proofs.lemmas.Bool.{and_parts}
 use Rattle.std.specs.Prelude.{map}
 use Rattle.std.specs.Char.{to_ascii_lowercase}
-use Rattle.tb_token.specs.tokens.Names.{words, is_word, is_among}
+use Rattle.tb_token.specs.tokens.Names.{keywords, is_keyword, is_among}
 
 pub or-by : {P : Type 0} (x y : Bool) → (x ≡ true → P) → (y ≡ true → P) → (x || y) ≡ true → P
 or-by true y one two e = one refl
@@ -20,9 +20,9 @@ among-passes test bytes (text ∷ texts) all among =
     (λ here. let same = (bytes_decides bytes text).0 here in rw same parts.0)
     (λ there. among-passes test bytes texts parts.1 there) among
 
--- what all words have, in capitals and in small letters
-pub word-passes : (test : List ℕ → Bool) (bytes : List ℕ) → list_all test words ≡ true → list_all test (map (map to_ascii_lowercase) words) ≡ true → is_word bytes ≡ true → test bytes ≡ true
-word-passes test bytes capital small word =
-    or-by (is_among bytes words) (is_among bytes (map (map to_ascii_lowercase) words))
-    (λ among. among-passes test bytes words capital among)
-    (λ among. among-passes test bytes (map (map to_ascii_lowercase) words) small among) word
+-- what all keywords have, in capitals and in small letters
+pub keyword-passes : (test : List ℕ → Bool) (bytes : List ℕ) → list_all test keywords ≡ true → list_all test (map (map to_ascii_lowercase) keywords) ≡ true → is_keyword bytes ≡ true → test bytes ≡ true
+keyword-passes test bytes capital small keyword =
+    or-by (is_among bytes keywords) (is_among bytes (map (map to_ascii_lowercase) keywords))
+    (λ among. among-passes test bytes keywords capital among)
+    (λ among. among-passes test bytes (map (map to_ascii_lowercase) keywords) small among) keyword

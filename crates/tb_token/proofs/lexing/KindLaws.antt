@@ -5,11 +5,11 @@ use Rattle.std.specs.List.{list_all}
 use Rattle.std.proofs.lemmas.Bool.{and_parts, not-true}
 use Rattle.std.proofs.lemmas.Bool.Decides.{nat_tests}
 use Rattle.tb_token.specs.tokens.Bytes.{is_blank, is_digit, is_quote, starts_name}
-use Rattle.tb_token.specs.tokens.Names.{is_name, is_word, all_go_on}
+use Rattle.tb_token.specs.tokens.Names.{is_name, is_keyword, all_go_on}
 use Rattle.tb_token.specs.tokens.Kinds.{is_token, is_closed, is_text_test, signs}
 use Rattle.tb_token.specs.declared.lexer.token.Kind.{Kind}
 use Rattle.tb_token.specs.declared.lexer.token.Kind.TheVariants.{Name, Word, Variable, Number, Quoted, TextTest, Sign}
-use Rattle.tb_token.proofs.lexing.AmongLaws.{among-passes, word-passes}
+use Rattle.tb_token.proofs.lexing.AmongLaws.{among-passes, keyword-passes}
 
 -- names 0, numbers 1, strings 2, variables 3, signs 4; blanks 5
 abbrev pub class_of : ℕ → ℕ
@@ -59,9 +59,9 @@ first-of class b bs e = eqb-true (class_of b) class e
 -- the first byte of a token is of the class of its kind
 pub token-class : (k : Kind) (b : ℕ) (bs : List ℕ) → is_token k (b ∷ bs) ≡ true → class_of b ≡ kind_class k
 token-class Name b bs is =
-    let name = (and_parts (is_name (b ∷ bs)) (not (is_word (b ∷ bs))) is).0 in
+    let name = (and_parts (is_name (b ∷ bs)) (not (is_keyword (b ∷ bs))) is).0 in
     name-class b (and_parts (starts_name b) (all_go_on bs) name).0
-token-class Word b bs is = first-of 0 b bs (word-passes (is_first_of 0) (b ∷ bs) refl refl is)
+token-class Word b bs is = first-of 0 b bs (keyword-passes (is_first_of 0) (b ∷ bs) refl refl is)
 token-class Variable b bs is = dollar-class b (and_parts (b == 36) (is_name bs) is).0
 token-class Number b bs is =
     let all = (and_parts (nat_lt 0 (length (b ∷ bs))) (list_all is_digit (b ∷ bs)) is).1 in
@@ -80,14 +80,14 @@ token-some Quoted = refl
 token-some TextTest = refl
 token-some Sign = refl
 
-pub word-name : (bytes : List ℕ) → is_word bytes ≡ true → is_name bytes ≡ true
-word-name bytes word = word-passes is_name bytes refl refl word
+pub keyword-name : (bytes : List ℕ) → is_keyword bytes ≡ true → is_name bytes ≡ true
+keyword-name bytes keyword = keyword-passes is_name bytes refl refl keyword
 
 pub text_test-no_name : (bytes : List ℕ) → is_text_test bytes ≡ true → not (is_name bytes) ≡ true
 text_test-no_name bytes is = among-passes (λ text. not (is_name text)) bytes (codes "text()" ∷ codes "TEXT()" ∷ []) refl is
 
 abbrev of_name : List ℕ → Kind
-of_name bytes = cond (is_name bytes) (cond (is_word bytes) Word Name) TextTest
+of_name bytes = cond (is_name bytes) (cond (is_keyword bytes) Word Name) TextTest
 
 abbrev by_class : ℕ → List ℕ → Kind
 by_class class bytes = cond (class == 0) (of_name bytes) (cond (class == 1) Number (cond (class == 2) Quoted (cond (class == 3) Variable Sign)))
@@ -98,10 +98,10 @@ kind_of (b ∷ bs) = by_class (class_of b) (b ∷ bs)
 
 kind-by : (k : Kind) (bytes : List ℕ) → is_token k bytes ≡ true → by_class (kind_class k) bytes ≡ k
 kind-by Name bytes is =
-    let parts = and_parts (is_name bytes) (not (is_word bytes)) is in
-    let no = not-true (is_word bytes) parts.1 in
+    let parts = and_parts (is_name bytes) (not (is_keyword bytes)) is in
+    let no = not-true (is_keyword bytes) parts.1 in
     rw (parts.0, no) refl
-kind-by Word bytes is = rw (word-name bytes is, is) refl
+kind-by Word bytes is = rw (keyword-name bytes is, is) refl
 kind-by Variable bytes is = refl
 kind-by Number bytes is = refl
 kind-by Quoted bytes is = refl

@@ -9,7 +9,7 @@ use Rattle.std.proofs.lemmas.Bool.Decides.{nat_tests}
 use Rattle.std.proofs.lemmas.List.{length-take-le}
 use Rattle.std.proofs.lemmas.List.Sums.{prefix_len-le-length}
 use Rattle.tb_token.specs.tokens.Bytes.{is_blank, is_digit, is_quote, starts_name}
-use Rattle.tb_token.specs.tokens.Names.{is_name, is_word, is_among}
+use Rattle.tb_token.specs.tokens.Names.{is_name, is_keyword, is_among}
 use Rattle.tb_token.specs.tokens.Kinds.{is_token, is_closed, is_text_test, signs}
 use Rattle.tb_token.specs.tokens.Cuts.{IsLongest}
 use Rattle.tb_token.specs.tokens.Prefixes.{Finds, found, rest_len, begins_text_test, named, quoted, variable, is_pair, is_single, sign, prefix_of}
@@ -18,7 +18,7 @@ use Rattle.tb_token.specs.declared.lexer.token.Kind.TheVariants.{Name, Word, Var
 use Rattle.tb_token.specs.declared.lexer.prefix.Prefix.{Prefix}
 use Rattle.tb_token.proofs.grammar.LetterLaws.{none-true}
 use Rattle.tb_token.proofs.lexing.AmongLaws.{or-by, among-passes}
-use Rattle.tb_token.proofs.lexing.KindLaws.{class_of, kind_class, name-class, digit-class, quote-class, dollar-class, token-class, token-some, word-name}
+use Rattle.tb_token.proofs.lexing.KindLaws.{class_of, kind_class, name-class, digit-class, quote-class, dollar-class, token-class, token-some, keyword-name}
 use Rattle.tb_token.proofs.lexing.SizeLaws.{all-prefix, all-most, rest-le, name-prefix, name-most, inside, closed-at, closed-prefix}
 use Rattle.tb_token.proofs.lexing.SignLaws.{sign-single, sign-pair, sign-short}
 
@@ -176,7 +176,7 @@ sign-finds-by a bs class false false e f = λ k n within is.
 sign-finds : (a : ℕ) (bs : List ℕ) → 3 < class_of a → Finds (a ∷ bs) (sign a bs)
 sign-finds a bs class = rw (sign-by a bs) (sign-finds-by a bs class (begins_pair a bs) (is_single a) refl refl)
 
--- Names, words and `text()`.
+-- Names, keywords and `text()`.
 
 abbrev text_tests : List (List ℕ)
 text_tests = codes "text()" ∷ codes "TEXT()" ∷ []
@@ -189,8 +189,8 @@ text-size bytes n within is =
 
 -- a token that begins as names do is a name or `text()`
 name-or-text : (k : Kind) (bytes : List ℕ) → kind_class k ≡ 0 → is_token k bytes ≡ true → (is_name bytes ≡ true) ⊎ (is_text_test bytes ≡ true)
-name-or-text Name bytes e is = inl (and_parts (is_name bytes) (not (is_word bytes)) is).0
-name-or-text Word bytes e is = inl (word-name bytes is)
+name-or-text Name bytes e is = inl (and_parts (is_name bytes) (not (is_keyword bytes)) is).0
+name-or-text Word bytes e is = inl (keyword-name bytes is)
 name-or-text TextTest bytes e is = inr is
 name-or-text Variable bytes e is = absurd (omega arith)
 name-or-text Number bytes e is = absurd (omega arith)
@@ -246,14 +246,14 @@ name-longest b bs k starts other is = record {
   most = λ l n within token. ⊎_elim (λ name. name) (λ text. none-true (begins_text_test (b ∷ bs)) other (text-begins (b ∷ bs) n within text)) (token-name b bs starts l n within token);
 }
 
-named-by : (b : ℕ) (bs : List ℕ) → starts_name b ≡ true → (text word : Bool) → begins_text_test (b ∷ bs) ≡ text → is_word (take (1 + rest_len bs) (b ∷ bs)) ≡ word
-    → Finds (b ∷ bs) (cond text (found TextTest 6) (cond word (found Word (1 + rest_len bs)) (found Name (1 + rest_len bs))))
-named-by b bs starts true word e f = text-finds (b ∷ bs) e
+named-by : (b : ℕ) (bs : List ℕ) → starts_name b ≡ true → (text keyword : Bool) → begins_text_test (b ∷ bs) ≡ text → is_keyword (take (1 + rest_len bs) (b ∷ bs)) ≡ keyword
+    → Finds (b ∷ bs) (cond text (found TextTest 6) (cond keyword (found Word (1 + rest_len bs)) (found Name (1 + rest_len bs))))
+named-by b bs starts true keyword e f = text-finds (b ∷ bs) e
 named-by b bs starts false true e f = name-longest b bs Word starts e f
 named-by b bs starts false false e f =
     let prefix = take (1 + rest_len bs) (b ∷ bs) in
-    let other : not (is_word prefix) ≡ true = rw f refl in
-    name-longest b bs Name starts e (and_from (is_name prefix) (not (is_word prefix)) (name-prefix b bs starts) other)
+    let other : not (is_keyword prefix) ≡ true = rw f refl in
+    name-longest b bs Name starts e (and_from (is_name prefix) (not (is_keyword prefix)) (name-prefix b bs starts) other)
 
 -- All classes.
 
@@ -268,7 +268,7 @@ other-class b name digit quote dollar =
 
 finds-by : (b : ℕ) (bs : List ℕ) (name digit quote dollar : Bool) → starts_name b ≡ name → is_digit b ≡ digit → is_quote b ≡ quote → (b == 36) ≡ dollar
     → Finds (b ∷ bs) (cond name (named (b ∷ bs) (1 + rest_len bs)) (cond digit (found Number (1 + prefix_len is_digit bs)) (cond quote (quoted b bs) (cond dollar (variable bs) (sign b bs)))))
-finds-by b bs true digit quote dollar n d q v = named-by b bs n (begins_text_test (b ∷ bs)) (is_word (take (1 + rest_len bs) (b ∷ bs))) refl refl
+finds-by b bs true digit quote dollar n d q v = named-by b bs n (begins_text_test (b ∷ bs)) (is_keyword (take (1 + rest_len bs) (b ∷ bs))) refl refl
 finds-by b bs false true quote dollar n d q v = number-longest b bs d
 finds-by b bs false false true dollar n d q v = quoted-by b bs q (nat_lt (inside b bs) (length bs)) refl
 finds-by b bs false false false true n d q v = variable-finds b bs v

@@ -1,7 +1,7 @@
 -- Rows worked out by hand: what the definitions come to.
 use Rattle.std.proofs.Common.{◌≡◌, true, false, refl, ◌∷◌, []}
 use Rattle.std.specs.Prelude.{codes, None}
-use Rattle.tb_token.specs.tokens.Names.{is_name, is_word}
+use Rattle.tb_token.specs.tokens.Names.{is_name, is_keyword}
 use Rattle.tb_token.specs.tokens.Kinds.{is_token}
 use Rattle.tb_token.specs.tokens.Prefixes.{prefix_of, found}
 use Rattle.tb_token.specs.declared.lexer.token.Kind.TheVariants.{Name, Word, Variable, Number, Quoted, TextTest, Sign}
@@ -18,14 +18,14 @@ name-colon_digit = refl
 pub name-high : is_name (195 ∷ 164 ∷ []) ≡ true
 name-high = refl
 
-pub word-capitals : is_word (codes "DESCENDING") ≡ true
-word-capitals = refl
+pub keyword-capitals : is_keyword (codes "DESCENDING") ≡ true
+keyword-capitals = refl
 
-pub word-small : is_word (codes "descending") ≡ true
-word-small = refl
+pub keyword-small : is_keyword (codes "descending") ≡ true
+keyword-small = refl
 
-pub word-mixed : is_word (codes "For") ≡ false
-word-mixed = refl
+pub keyword-mixed : is_keyword (codes "For") ≡ false
+keyword-mixed = refl
 
 pub quoted-other : is_token Quoted (codes "\"it's\"") ≡ true
 quoted-other = refl
@@ -48,8 +48,8 @@ prefix-text = refl
 pub prefix-text_blank : prefix_of (codes "text ()") ≡ found Name 4
 prefix-text_blank = refl
 
-pub prefix-word : prefix_of (codes "for$x") ≡ found Word 3
-prefix-word = refl
+pub prefix-keyword : prefix_of (codes "for$x") ≡ found Word 3
+prefix-keyword = refl
 
 pub prefix-variable : prefix_of (codes "$x/y") ≡ found Variable 2
 prefix-variable = refl

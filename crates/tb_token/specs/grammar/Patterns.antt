@@ -1,12 +1,12 @@
 -- The grammar of `MATCH` queries, line by line as docs/FORMATS.md has it.
 use Rattle.std.specs.Prelude.{[], ◌∷◌, codes}
 use Rattle.tb_token.specs.grammar.Grammar.{Part, both, either, maybe, opened, row, one_of}
-use Rattle.tb_token.specs.grammar.Terminals.{word, sign, sign_among, name, number, string, text_test, list_of, comma}
+use Rattle.tb_token.specs.grammar.Terminals.{keyword, sign, sign_among, name, number, string, text_test, list_of, comma}
 use Rattle.tb_token.specs.tokens.LetterNames as letters
 
 -- DOCUMENT "(" STRING ")"
 abbrev pub doc : Part
-doc = row (word (codes "DOCUMENT")) (sign (codes "(") ∷ string ∷ sign (codes ")") ∷ [])
+doc = row (keyword (codes "DOCUMENT")) (sign (codes "(") ∷ string ∷ sign (codes ")") ∷ [])
 
 -- "/" | "//"
 abbrev pub axis : Part
@@ -34,7 +34,7 @@ literal = either string (both (maybe (sign (codes "-"))) number)
 -- "[" cmp literal { AND cmp literal } "]"
 abbrev pub conds : Part
 conds =
-    row (sign (codes "[")) (list_of (word (codes "AND")) (both cmp literal) ∷ sign (codes "]") ∷ [])
+    row (sign (codes "[")) (list_of (keyword (codes "AND")) (both cmp literal) ∷ sign (codes "]") ∷ [])
 
 -- "(" and rule 0, which is the rest of the edges
 abbrev pub edges : Part
@@ -50,4 +50,4 @@ edges_rest = both (list_of comma edge) (sign (codes ")"))
 
 -- MATCH doc edges
 abbrev pub match_query : Part
-match_query = row (word (codes "MATCH")) (doc ∷ edges ∷ [])
+match_query = row (keyword (codes "MATCH")) (doc ∷ edges ∷ [])

@@ -3,7 +3,7 @@ use Rattle.std.specs.Prelude.{ℕ, zero, suc, List, [], ◌∷◌, map, codes}
 use Rattle.tb_token.specs.grammar.Grammar.{Part, one, both, either, maybe, many, Rules, row}
 use Rattle.tb_token.specs.tokens.Letters.{letter_of}
 use Rattle.tb_token.specs.declared.lexer.token.Kind.TheVariants.{Word, Sign}
-use Rattle.tb_token.specs.grammar.Terminals.{word, sign, name, variable, list_of, comma}
+use Rattle.tb_token.specs.grammar.Terminals.{keyword, sign, name, variable, list_of, comma}
 use Rattle.tb_token.specs.grammar.Patterns.{cmp, literal, edges_rest, match_query}
 use Rattle.tb_token.specs.grammar.Paths.{longpath, path, operand}
 use Rattle.tb_token.specs.grammar.Results.{cons_rest, back}
@@ -12,14 +12,14 @@ use Rattle.tb_token.specs.tokens.LetterNames as letters
 -- VARIABLE [ ALLOWING EMPTY ] IN longpath
 abbrev pub bind : Part
 bind =
-    row variable (maybe (both (word (codes "ALLOWING")) (word (codes "EMPTY")))
-    ∷ word (codes "IN") ∷ longpath ∷ [])
+    row variable (maybe (both (keyword (codes "ALLOWING")) (keyword (codes "EMPTY")))
+    ∷ keyword (codes "IN") ∷ longpath ∷ [])
 
 -- FOR bind { "," bind } | LET VARIABLE ":=" longpath
 abbrev pub clause : Part
 clause =
-    either (both (word (codes "FOR")) (list_of comma bind))
-    (row (word (codes "LET")) (variable ∷ sign (codes ":=") ∷ longpath ∷ []))
+    either (both (keyword (codes "FOR")) (list_of comma bind))
+    (row (keyword (codes "LET")) (variable ∷ sign (codes ":=") ∷ longpath ∷ []))
 
 -- operand cmp ( operand | literal )
 abbrev pub cond : Part
@@ -27,11 +27,11 @@ cond = row operand (cmp ∷ either operand literal ∷ [])
 
 -- WHERE cond { AND cond }
 abbrev pub where_part : Part
-where_part = both (word (codes "WHERE")) (list_of (word (codes "AND")) cond)
+where_part = both (keyword (codes "WHERE")) (list_of (keyword (codes "AND")) cond)
 
 -- GROUP BY VARIABLE ":=" path
 abbrev pub group : Part
-group = row (word (codes "GROUP")) (word (codes "BY") ∷ variable ∷ sign (codes ":=") ∷ path ∷ [])
+group = row (keyword (codes "GROUP")) (keyword (codes "BY") ∷ variable ∷ sign (codes ":=") ∷ path ∷ [])
 
 -- operand [ ASCENDING | DESCENDING ]
 abbrev pub key : Part
@@ -41,13 +41,13 @@ key =
 
 -- ORDER BY key { "," key }
 abbrev pub order : Part
-order = row (word (codes "ORDER")) (word (codes "BY") ∷ list_of comma key ∷ [])
+order = row (keyword (codes "ORDER")) (keyword (codes "BY") ∷ list_of comma key ∷ [])
 
 -- clause { clause } [ where ] [ group ] [ order ] RETURN back
 abbrev pub flwor : Part
 flwor =
     row clause (many clause ∷ maybe where_part ∷ maybe group ∷ maybe order
-    ∷ word (codes "RETURN") ∷ back ∷ [])
+    ∷ keyword (codes "RETURN") ∷ back ∷ [])
 
 -- match | flwor
 abbrev pub query : Part

@@ -1,13 +1,13 @@
 -- The tokens that the grammar of queries names.
 use Rattle.std.specs.Prelude.{ℕ, List, [], ◌∷◌, map, codes}
 use Rattle.tb_token.specs.grammar.Grammar.{Part, one, both, many}
-use Rattle.tb_token.specs.tokens.Names.{words}
+use Rattle.tb_token.specs.tokens.Names.{keywords}
 use Rattle.tb_token.specs.tokens.Letters.{letter_of}
 use Rattle.tb_token.specs.declared.lexer.token.Kind.TheVariants.{Name, Word, Variable, Number, Quoted, TextTest, Sign}
 
--- the word, in capitals or in small letters
-abbrev pub word : List ℕ → Part
-word text = one (letter_of Word text ∷ [])
+-- the keyword, in capitals or in small letters
+abbrev pub keyword : List ℕ → Part
+keyword text = one (letter_of Word text ∷ [])
 
 -- the sign
 abbrev pub sign : List ℕ → Part
@@ -17,9 +17,9 @@ sign text = one (letter_of Sign text ∷ [])
 abbrev pub sign_among : List (List ℕ) → Part
 sign_among texts = one (map (letter_of Sign) texts)
 
--- a name, or any word in its place
+-- a name, or any keyword in its place
 abbrev pub name : Part
-name = one (letter_of Name [] ∷ map (letter_of Word) words)
+name = one (letter_of Name [] ∷ map (letter_of Word) keywords)
 
 -- `$` and a name
 abbrev pub variable : Part

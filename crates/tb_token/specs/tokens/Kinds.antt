@@ -2,7 +2,7 @@
 use Rattle.std.specs.Prelude.{ℕ, Bool, true, false, ◌&&◌, ◌==◌, nat_lt, not, if◌then◌else◌, List, [], ◌∷◌, length, codes}
 use Rattle.std.specs.List.{list_all}
 use Rattle.tb_token.specs.tokens.Bytes.{is_digit, is_quote}
-use Rattle.tb_token.specs.tokens.Names.{is_name, is_word, is_among}
+use Rattle.tb_token.specs.tokens.Names.{is_name, is_keyword, is_among}
 use Rattle.tb_token.specs.declared.lexer.token.Kind.{Kind}
 use Rattle.tb_token.specs.declared.lexer.token.Kind.TheVariants.{Name, Word, Variable, Number, Quoted, TextTest, Sign}
 
@@ -42,8 +42,8 @@ signs =
 
 -- the bytes are a token of this kind
 abbrev pub is_token : Kind → List ℕ → Bool
-is_token Name bytes = is_name bytes && not (is_word bytes)
-is_token Word bytes = is_word bytes
+is_token Name bytes = is_name bytes && not (is_keyword bytes)
+is_token Word bytes = is_keyword bytes
 is_token Variable bytes = is_variable bytes
 is_token Number bytes = is_number bytes
 is_token Quoted bytes = is_quoted bytes

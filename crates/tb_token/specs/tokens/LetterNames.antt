@@ -1,7 +1,7 @@
 -- The letters of tokens by name: what the program has in `letters`.
 use Rattle.std.specs.Prelude.{ℕ, Bool, ◌==◌, List, [], ◌∷◌, map, codes}
 use Rattle.tb_token.specs.grammar.Grammar.{Tok}
-use Rattle.tb_token.specs.tokens.Names.{words}
+use Rattle.tb_token.specs.tokens.Names.{keywords}
 use Rattle.tb_token.specs.tokens.Letters.{letter_of}
 use Rattle.tb_token.specs.declared.lexer.token.Kind.TheVariants.{Name, Word, Variable, Number, Quoted, TextTest, Sign}
 
@@ -149,9 +149,9 @@ MIN = letter_of Word (codes "MIN")
 abbrev pub MAX : ℕ
 MAX = letter_of Word (codes "MAX")
 
--- a name, and each word, which may stand where a name does
+-- a name, and each keyword, which may stand where a name does
 abbrev pub NAMES : List ℕ
-NAMES = NAME ∷ map (letter_of Word) words
+NAMES = NAME ∷ map (letter_of Word) keywords
 
 abbrev pub AXES : List ℕ
 AXES = SLASH ∷ DOUBLE_SLASH ∷ []

@@ -3,7 +3,7 @@ use Rattle.std.specs.Prelude.{◌≡◌, ℕ, ◌+◌, ◌-◌, true, if◌then�
 use Rattle.std.specs.Char.{to_ascii_uppercase}
 use Rattle.std.specs.Str.{bytes_eq}
 use Rattle.tb_token.specs.grammar.Grammar.{Tok}
-use Rattle.tb_token.specs.tokens.Names.{words}
+use Rattle.tb_token.specs.tokens.Names.{keywords}
 use Rattle.tb_token.specs.tokens.Kinds.{is_number, signs}
 use Rattle.tb_token.specs.declared.lexer.token.Kind.{Kind}
 use Rattle.tb_token.specs.declared.lexer.token.Kind.TheVariants.{Name, Word, Variable, Number, Quoted, TextTest, Sign}
@@ -14,8 +14,8 @@ abbrev pub place_in : List ℕ → List (List ℕ) → ℕ
 place_in bytes [] = 0
 place_in bytes (t ∷ ts) = if bytes_eq bytes t then 0 else 1 + place_in bytes ts
 
--- The letter of a token: one for each kind but words and signs, of which each has its own, whatever
--- the case of a word.
+-- The letter of a token: one for each kind but keywords and signs, of which each has its own, whatever
+-- the case of a keyword.
 abbrev pub letter_of : Kind → List ℕ → ℕ
 letter_of Name bytes = 0
 letter_of Variable bytes = 1
@@ -23,7 +23,7 @@ letter_of Number bytes = 2
 letter_of Quoted bytes = 3
 letter_of TextTest bytes = 4
 letter_of Sign bytes = 8 + place_in bytes signs
-letter_of Word bytes = 64 + place_in (map to_ascii_uppercase bytes) words
+letter_of Word bytes = 64 + place_in (map to_ascii_uppercase bytes) keywords
 
 -- a token's bytes
 abbrev pub bytes_of : List ℕ → Token → List ℕ

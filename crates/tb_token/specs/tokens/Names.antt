@@ -1,4 +1,4 @@
--- Names, and the words of the language.
+-- Names, and the keywords of the language.
 use Rattle.std.specs.Prelude.{ℕ, Bool, true, false, ◌&&◌, ◌||◌, ◌==◌, List, [], ◌∷◌, map, codes}
 use Rattle.std.specs.Char.{to_ascii_lowercase}
 use Rattle.std.specs.List.{list_any}
@@ -25,9 +25,9 @@ abbrev pub is_name : List ℕ → Bool
 is_name [] = false
 is_name (b ∷ bs) = starts_name b && all_go_on bs
 
--- the words in capitals
-abbrev pub words : List (List ℕ)
-words =
+-- the keywords in capitals
+abbrev pub keywords : List (List ℕ)
+keywords =
     codes "FOR" ∷ codes "LET" ∷ codes "IN" ∷ codes "ALLOWING" ∷ codes "EMPTY" ∷ codes "WHERE"
     ∷ codes "AND" ∷ codes "GROUP" ∷ codes "ORDER" ∷ codes "BY" ∷ codes "ASCENDING"
     ∷ codes "DESCENDING" ∷ codes "RETURN" ∷ codes "MATCH" ∷ codes "DOCUMENT" ∷ codes "COUNT"
@@ -37,6 +37,6 @@ words =
 abbrev pub is_among : List ℕ → List (List ℕ) → Bool
 is_among bytes texts = list_any (bytes_eq bytes) texts
 
--- a word, all of it in capitals or all in small letters
-abbrev pub is_word : List ℕ → Bool
-is_word bytes = is_among bytes words || is_among bytes (map (map to_ascii_lowercase) words)
+-- a keyword, all of it in capitals or all in small letters
+abbrev pub is_keyword : List ℕ → Bool
+is_keyword bytes = is_among bytes keywords || is_among bytes (map (map to_ascii_lowercase) keywords)

@@ -2,7 +2,7 @@
 use Rattle.std.specs.Prelude.{ℕ, ◌+◌, Bool, ◌&&◌, ◌||◌, ◌==◌, nat_eq, nat_lt, if◌then◌else◌, List, [], ◌∷◌, length, take, Option, Some, None, codes}
 use Rattle.std.specs.List.{prefix_len, position_or_len, starts_with, list_any}
 use Rattle.tb_token.specs.tokens.Bytes.{is_digit, is_quote, starts_name}
-use Rattle.tb_token.specs.tokens.Names.{goes_on, is_word}
+use Rattle.tb_token.specs.tokens.Names.{goes_on, is_keyword}
 use Rattle.tb_token.specs.tokens.Cuts.{IsLongest, BeginsNone}
 use Rattle.tb_token.specs.declared.lexer.token.Kind.{Kind}
 use Rattle.tb_token.specs.declared.lexer.token.Kind.TheVariants.{Name, Word, Variable, Number, Quoted, TextTest, Sign}
@@ -29,7 +29,7 @@ begins_text_test bytes =
 abbrev pub named : List ℕ → ℕ → Option Prefix
 named bytes size =
     if begins_text_test bytes then found TextTest 6
-    else (if is_word (take size bytes) then found Word size else found Name size)
+    else (if is_keyword (take size bytes) then found Word size else found Name size)
 
 -- the bytes behind such a quote, up to the next one
 abbrev pub quoted : ℕ → List ℕ → Option Prefix

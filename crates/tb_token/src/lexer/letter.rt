@@ -4,13 +4,13 @@ ghost use Rattle.std.specs.Prelude.{◌≡◌, ◌≤◌, IfOk, length, map};
 ghost use Rattle.std.specs.Str.{bytes_eq};
 ghost use Rattle.tb_token.specs.tokens.Letters.{letter_of, place_in};
 ghost use Rattle.tb_token.specs.tokens.Kinds.{signs};
-ghost use Rattle.tb_token.specs.tokens.Names.{words};
+ghost use Rattle.tb_token.specs.tokens.Names.{keywords};
 
 use crate::lexer::names::is_same;
 use crate::lexer::token::Kind;
 use std::alloc::{AllocError, Global};
 
-/// The letter of a token whose bytes are these. Memory is taken for a word alone.
+/// The letter of a token whose bytes are these. Memory is taken for a keyword alone.
 pub fn letter_of(alloc: Global, kind: Kind, bytes: &[u8]) -> Result<u8, AllocError>
     ensures { IfOk result (λ letter. letter ≡ letter_of kind bytes.now) }
 {
@@ -21,7 +21,7 @@ pub fn letter_of(alloc: Global, kind: Kind, bytes: &[u8]) -> Result<u8, AllocErr
         Kind::Quoted => Ok(3),
         Kind::TextTest => Ok(4),
         Kind::Sign => Ok(8 + place_among_signs(bytes)),
-        Kind::Word => Ok(64 + place_among_words(bytes.to_ascii_uppercase(alloc)?.as_slice())),
+        Kind::Word => Ok(64 + place_among_keywords(bytes.to_ascii_uppercase(alloc)?.as_slice())),
     }
 }
 
@@ -38,8 +38,8 @@ fn place_among_signs(bytes: &[u8]) -> u8
     )
 }
 
-fn place_among_words(bytes: &[u8]) -> u8
-    ensures place { result ≡ place_in bytes.now words }
+fn place_among_keywords(bytes: &[u8]) -> u8
+    ensures place { result ≡ place_in bytes.now keywords }
     ensures few { result ≤ 19 }
 {
     place_in(

@@ -100,7 +100,7 @@ pub const MIN: u8 = 81;
 
 pub const MAX: u8 = 82;
 
-/// A name, and each word, `FOR` to `MAX`, which may stand where a name does. They are written as
+/// A name, and each keyword, `FOR` to `MAX`, which may stand where a name does. They are written as
 /// numbers, since a grammar copies the list at each name, and has room for so many expressions.
 pub const NAMES: &[u8] = &[
     0, 64, 65, 66, 67, 68, 69, 70, 71, 72, 73, 74, 75, 76, 77, 78, 79, 80, 81, 82,

@@ -11,7 +11,7 @@ use std::marker::Model;
 
 /// A token with its letter, which is all that the grammar sees of it, its bytes, and its number in
 /// the text, from 1. The letter of a name is 0, of a variable 1, of a number 2, of a string 3, of
-/// `text()` 4; signs have 8 and on, and words 64 and on, each in the order in which docs/FORMATS.md
+/// `text()` 4; signs have 8 and on, and keywords 64 and on, each in the order in which docs/FORMATS.md
 /// lists them.
 #[derive(Debug, Drop)]
 pub struct Lexeme<'a> {

@@ -1,9 +1,9 @@
-//! Names and words at the beginning of bytes.
+//! Names and keywords at the beginning of bytes.
 
 ghost use Rattle.std.specs.Prelude.{◌≡◌, ◌≤◌, length, map};
 ghost use Rattle.std.specs.List.{list_any};
 ghost use Rattle.std.specs.Str.{bytes_eq};
-ghost use Rattle.tb_token.specs.tokens.Names.{begins_name, goes_on, is_word};
+ghost use Rattle.tb_token.specs.tokens.Names.{begins_name, goes_on, is_keyword};
 ghost use Rattle.tb_token.specs.tokens.Prefixes.{rest_len, begins_text_test};
 
 use crate::lexer::bytes::{is_digit, starts_name};
@@ -48,9 +48,9 @@ pub fn begins_text_test(bytes: &[u8]) -> bool
     bytes.starts_with(b"text()") || bytes.starts_with(b"TEXT()")
 }
 
-/// Whether the name is a word of the language. It is compared with the words of its length alone.
-pub fn is_word(name: &[u8]) -> bool
-    ensures { result ≡ is_word name.now }
+/// Whether the name is a keyword of the language. It is compared with the keywords of its length alone.
+pub fn is_keyword(name: &[u8]) -> bool
+    ensures { result ≡ is_keyword name.now }
 {
     match name.len() {
         2 => is_among(name, &[b"IN", b"BY", b"in", b"by"]),
@@ -76,11 +76,11 @@ pub fn is_word(name: &[u8]) -> bool
     }
 }
 
-fn is_among(name: &[u8], words: &[&[u8]]) -> bool
-    ensures { result ≡ list_any (bytes_eq name.now) (map (λ word. word.now) words.now) }
+fn is_among(name: &[u8], keywords: &[&[u8]]) -> bool
+    ensures { result ≡ list_any (bytes_eq name.now) (map (λ keyword. keyword.now) keywords.now) }
 {
-    'words: for word in words {
-        if is_same(name, word) {
+    'keywords: for keyword in keywords {
+        if is_same(name, keyword) {
             return true;
         }
     }

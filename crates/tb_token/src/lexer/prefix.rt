@@ -7,7 +7,7 @@ ghost use Rattle.tb_token.specs.tokens.Prefixes.{Finds, prefix_of, found, named,
 ghost use Rattle.tb_token.specs.tokens.Prefixes.{variable, sign};
 
 use crate::lexer::bytes::{is_digit, is_quote, starts_name};
-use crate::lexer::names::{begins_text_test, is_word, rest_len};
+use crate::lexer::names::{begins_text_test, is_keyword, rest_len};
 use crate::lexer::signs::{is_pair, is_single};
 use crate::lexer::token::Kind;
 
@@ -61,7 +61,7 @@ impl Prefix {
         if begins_text_test(bytes) {
             return Prefix::found(Kind::TextTest, 6);
         }
-        if is_word(&bytes[..size]) {
+        if is_keyword(&bytes[..size]) {
             return Prefix::found(Kind::Word, size);
         }
         Prefix::found(Kind::Name, size)

@@ -4,7 +4,7 @@
 #[derive(Clone, Copy, Debug, PartialEq, Eq)]
 pub enum Kind {
     Name,
-    /// One of the words of the language, in capitals or in small letters. It is a name too.
+    /// One of the keywords of the language, in capitals or in small letters. It is a name too.
     Word,
     /// `$` and a name.
     Variable,

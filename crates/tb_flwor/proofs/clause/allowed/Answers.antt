@@ -1,4 +1,4 @@
--- Two words are there, or they are not.
+-- Two keywords are there, or they are not.
 use Rattle.std.proofs.Common.{sym, ◌∙◌}
 use Rattle.tb_flwor.proofs.ClauseLaws.{allowed-there, allowed-none}
 use Rattle.tb_flwor.proofs.clause.allowed.Goals as goal

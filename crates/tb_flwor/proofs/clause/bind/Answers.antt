@@ -1,4 +1,4 @@
--- The path stands behind the word IN.
+-- The path stands behind the keyword IN.
 use Rattle.tb_flwor.proofs.ClauseLaws.{bind-builds}
 use Rattle.tb_flwor.proofs.clause.bind.Goals as goal
 

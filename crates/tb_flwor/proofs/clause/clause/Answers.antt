@@ -1,4 +1,4 @@
--- The next token is the word FOR or LET.
+-- The next token is the keyword FOR or LET.
 use Rattle.std.proofs.Common.{sym, ◌∙◌}
 use Rattle.tb_flwor.proofs.ClauseLaws.{clause-for, clause-let}
 use Rattle.tb_flwor.proofs.clause.clause.Goals as goal

@@ -1,4 +1,4 @@
--- The next token is the word, or it is not there.
+-- The next token is the keyword, or it is not there.
 use Rattle.std.proofs.Common.{sym, ◌∙◌}
 use Rattle.tb_flwor.proofs.OrderLaws.{turned-there, turned-none}
 use Rattle.tb_flwor.proofs.order.turned.Goals as goal

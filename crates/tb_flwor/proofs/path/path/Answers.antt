@@ -1,4 +1,4 @@
--- The next token is the word DOCUMENT, or the variable.
+-- The next token is the keyword DOCUMENT, or the variable.
 use Rattle.std.proofs.Common.{sym, ◌∙◌}
 use Rattle.tb_flwor.proofs.PathLaws.{path-document, path-variable}
 use Rattle.tb_flwor.proofs.path.path.Goals as goal

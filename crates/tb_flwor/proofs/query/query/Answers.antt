@@ -1,4 +1,4 @@
--- The word MATCH begins a query of a pattern, and any other token one of clauses.
+-- The keyword MATCH begins a query of a pattern, and any other token one of clauses.
 use Rattle.std.proofs.Common.{sym, ◌∙◌}
 use Rattle.tb_flwor.proofs.QueryBuilding.{match-asks, flwor-asks}
 use Rattle.tb_flwor.proofs.query.query.Goals as goal
