@@ -2,7 +2,7 @@
 use Rattle.std.proofs.Common.{◌≡◌, ℕ, Bool, true, false, ◌-◌, ◌≤◌, List, [], ◌∷◌, ◌++◌, length, drop, refl, sym, ap, ◌∙◌, append_assoc, append-nil, arith, length-drop}
 use Rattle.std.specs.Prelude.{codes}
 use Rattle.tb_token.specs.grammar.Grammar.{Tok, Part, both, maybe, many}
-use Rattle.tb_token.specs.grammar.Words.{Tree, nothing, pair, first, second}
+use Rattle.tb_token.specs.grammar.Sentences.{Tree, nothing, pair, first, second}
 use Rattle.tb_token.specs.tokens.Letters.{letter_of, place_in}
 use Rattle.tb_token.specs.grammar.Terminals.{keyword, sign, variable, list_of, comma}
 use Rattle.tb_token.specs.grammar.Paths.{longpath}

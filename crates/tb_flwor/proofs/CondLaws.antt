@@ -2,7 +2,7 @@
 use Rattle.std.proofs.Common.{◌≡◌, ℕ, Bool, true, false, ◌≤◌, List, [], ◌∷◌, ◌++◌, length, drop, refl, sym, ap, ◌∙◌, append_assoc, append-nil, arith, length-drop}
 use Rattle.std.specs.Prelude.{codes}
 use Rattle.tb_token.specs.grammar.Grammar.{Tok, Part, both, either, maybe, many, has}
-use Rattle.tb_token.specs.grammar.Words.{Tree, leaf, nothing, pair, second, by_one, by_both, by_second}
+use Rattle.tb_token.specs.grammar.Sentences.{Tree, leaf, nothing, pair, second, by_one, by_both, by_second}
 use Rattle.tb_token.specs.grammar.Reading.{own_starts}
 use Rattle.tb_token.proofs.grammar.PlaceLaws.{read-both, read-second, read-one}
 use Rattle.tb_token.specs.grammar.Terminals.{keyword, list_of}

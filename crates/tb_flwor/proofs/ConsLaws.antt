@@ -2,7 +2,7 @@
 use Rattle.std.proofs.Common.{◌≡◌, ℕ, true, false, ◌-◌, ◌≤◌, List, [], ◌∷◌, ◌++◌, map, length, drop, refl, sym, ap, ◌∙◌, append_assoc, append-nil, arith}
 use Rattle.std.specs.Prelude.{codes}
 use Rattle.tb_token.specs.grammar.Grammar.{Tok, Part, both, either, many}
-use Rattle.tb_token.specs.grammar.Words.{Tree, nothing, pair, second}
+use Rattle.tb_token.specs.grammar.Sentences.{Tree, nothing, pair, second}
 use Rattle.tb_token.specs.tokens.Letters.{letter_of}
 use Rattle.tb_token.specs.grammar.Terminals.{sign, name, string}
 use Rattle.tb_token.specs.grammar.Paths.{path}

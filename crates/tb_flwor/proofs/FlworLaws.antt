@@ -2,7 +2,7 @@
 use Rattle.std.proofs.Common.{◌≡◌, ℕ, List, [], ◌∷◌, drop, sym, ap, ◌∙◌}
 use Rattle.std.specs.Prelude.{codes}
 use Rattle.tb_token.specs.grammar.Grammar.{Tok, Part, both, maybe, many}
-use Rattle.tb_token.specs.grammar.Words.{Tree, pair}
+use Rattle.tb_token.specs.grammar.Sentences.{Tree, pair}
 use Rattle.tb_token.specs.grammar.Terminals.{keyword}
 use Rattle.tb_token.specs.grammar.Queries.{clause, where_part, group, order, flwor}
 use Rattle.tb_token.specs.grammar.Results.{back}

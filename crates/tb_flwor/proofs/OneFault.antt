@@ -1,7 +1,7 @@
 -- The text of a query has one first fault, or none.
 use Rattle.std.proofs.Common.{◌≡◌, ℕ, ◌<◌, ◌⊎◌, inl, inr, Option, Some, None, List, [], ◌∷◌, length, refl, sym, ap, ◌∙◌, subst, arith}
 use Rattle.tb_token.specs.grammar.Grammar.{Tok}
-use Rattle.tb_token.specs.grammar.Words.{IsWrongAt}
+use Rattle.tb_token.specs.grammar.Sentences.{IsWrongAt}
 use Rattle.tb_token.proofs.grammar.TreeLaws.{wrong-once}
 use Rattle.tb_token.specs.tokens.Letters.{toks_of}
 use Rattle.tb_token.specs.grammar.Queries.{rules, query}

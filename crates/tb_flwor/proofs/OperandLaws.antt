@@ -2,7 +2,7 @@
 use Rattle.std.proofs.Common.{◌≡◌, ℕ, true, false, List, [], ◌∷◌, drop, refl, ap, ◌∙◌}
 use Rattle.std.specs.Prelude.{codes}
 use Rattle.tb_token.specs.grammar.Grammar.{Tok, Part, both, either}
-use Rattle.tb_token.specs.grammar.Words.{Tree, pair, second}
+use Rattle.tb_token.specs.grammar.Sentences.{Tree, pair, second}
 use Rattle.tb_token.specs.tokens.Letters.{letter_of}
 use Rattle.tb_token.specs.grammar.Terminals.{sign, string}
 use Rattle.tb_token.specs.grammar.Paths.{agg, operand, path}

@@ -2,7 +2,7 @@
 use Rattle.std.proofs.Common.{◌≡◌, ℕ, true, false, ◌-◌, ◌≤◌, List, [], ◌∷◌, ◌++◌, length, drop, refl, sym, ap, ◌∙◌, append_assoc, append-nil, arith}
 use Rattle.std.specs.Prelude.{codes}
 use Rattle.tb_token.specs.grammar.Grammar.{Tok, Part, both, either, many}
-use Rattle.tb_token.specs.grammar.Words.{Tree, leaf, nothing, pair, first, second}
+use Rattle.tb_token.specs.grammar.Sentences.{Tree, leaf, nothing, pair, first, second}
 use Rattle.tb_token.specs.tokens.Letters.{letter_of, place_in}
 use Rattle.tb_token.specs.grammar.Terminals.{keyword, sign, string, variable}
 use Rattle.tb_token.specs.grammar.Patterns.{doc, axis, test}

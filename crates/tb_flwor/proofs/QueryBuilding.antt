@@ -2,7 +2,7 @@
 use Rattle.std.proofs.Common.{◌≡◌, ℕ, true, false, ◌||◌, ◌==◌, List, [], ◌∷◌, Option, Some, None, refl, sym, ◌∙◌, arith}
 use Rattle.std.specs.Prelude.{codes}
 use Rattle.tb_token.specs.grammar.Grammar.{Tok, has}
-use Rattle.tb_token.specs.grammar.Words.{Derives, at_end, by_first, by_second}
+use Rattle.tb_token.specs.grammar.Sentences.{Derives, at_end, by_first, by_second}
 use Rattle.tb_token.specs.grammar.Reading.{own_starts, read}
 use Rattle.tb_token.proofs.grammar.PlaceLaws.{read-first, read-second}
 use Rattle.tb_token.proofs.grammar.ReadLaws.{read-wrong}

@@ -2,7 +2,7 @@
 use Rattle.std.proofs.Common.{◌≡◌, ℕ, Bool, true, false, ◌≤◌, ◌-◌, List, [], ◌∷◌, ◌++◌, length, drop, Some, refl, sym, ap, ◌∙◌, append_assoc, append-nil, length-drop, arith}
 use Rattle.tb_token.specs.grammar.Grammar.{Tok, Part, one, both, many}
 use Rattle.tb_token.specs.grammar.Terminals.{list_of}
-use Rattle.tb_token.specs.grammar.Words.{Tree, nothing, pair, Derives, by_both, no_more, one_more}
+use Rattle.tb_token.specs.grammar.Sentences.{Tree, nothing, pair, Derives, by_both, no_more, one_more}
 use Rattle.tb_token.specs.grammar.Reading.{is_filled, own_starts, read}
 use Rattle.tb_token.proofs.grammar.PlaceLaws.{read-both, read-one_more, read-no_more}
 use Rattle.tb_token.specs.grammar.Queries.{rules}

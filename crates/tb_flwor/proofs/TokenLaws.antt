@@ -1,7 +1,7 @@
 -- A list has the tokens of its trees; and two laws on one letter.
 use Rattle.std.proofs.Common.{◌≡◌, ℕ, Bool, true, false, ◌||◌, ◌==◌, List, [], ◌∷◌, ◌++◌, refl, sym, ap, ◌∙◌, append_assoc, arith}
 use Rattle.tb_token.specs.grammar.Grammar.{Tok, Part, either}
-use Rattle.tb_token.specs.grammar.Words.{Tree, second, Derives, at_end, by_one, by_both, by_first, by_second, left_out, put_in, no_more, one_more, by_rule}
+use Rattle.tb_token.specs.grammar.Sentences.{Tree, second, Derives, at_end, by_one, by_both, by_first, by_second, left_out, put_in, no_more, one_more, by_rule}
 use Rattle.tb_token.proofs.grammar.LetterLaws.{none-true}
 use Rattle.tb_token.specs.grammar.Queries.{rules}
 use Rattle.tb_pattern.proofs.PartLaws.{Of, of_second}

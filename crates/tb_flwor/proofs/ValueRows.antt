@@ -1,7 +1,7 @@
 -- Trees of parts of queries worked out by hand, with what they stand for: each is computed.
 use Rattle.std.proofs.Common.{◌≡◌, ℕ, true, false, List, [], ◌∷◌, Some, refl}
 use Rattle.std.specs.Prelude.{codes}
-use Rattle.tb_token.specs.grammar.Words.{Tree, leaf, nothing, pair, first, second}
+use Rattle.tb_token.specs.grammar.Sentences.{Tree, leaf, nothing, pair, first, second}
 use Rattle.tb_token.specs.tokens.Letters.{letter_of}
 use Rattle.tb_token.specs.declared.lexer.token.Kind.{Kind}
 use Rattle.tb_token.specs.declared.lexer.token.Kind.TheVariants as kind

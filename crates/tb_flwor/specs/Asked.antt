@@ -1,7 +1,7 @@
 -- Which query tokens ask for.
 use Rattle.std.specs.Prelude.{◌≡◌, List, [], ◌∷◌, Option, None}
 use Rattle.tb_token.specs.grammar.Grammar.{Tok}
-use Rattle.tb_token.specs.grammar.Words.{Tree, nothing, pair, first, second, Derives}
+use Rattle.tb_token.specs.grammar.Sentences.{Tree, nothing, pair, first, second, Derives}
 use Rattle.tb_token.specs.grammar.Queries.{rules, query}
 use Rattle.tb_pattern.specs.Value.{document_of, pattern_of}
 use Rattle.tb_pattern.specs.View.{edges_of}

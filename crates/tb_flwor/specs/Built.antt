@@ -1,7 +1,7 @@
 -- Which trees the values that the program builds stand for, part by part.
 use Rattle.std.specs.Prelude.{◌≡◌, ℕ, Bool, false, List, [], ◌∷◌, ◌++◌, Option, map, codes}
 use Rattle.tb_token.specs.grammar.Grammar.{Tok, Part, one, both, either, many, row}
-use Rattle.tb_token.specs.grammar.Words.{Tree, pair, first}
+use Rattle.tb_token.specs.grammar.Sentences.{Tree, pair, first}
 use Rattle.tb_token.specs.tokens.Letters.{letter_of}
 use Rattle.tb_token.specs.declared.lexer.token.Kind.TheVariants.{Word}
 use Rattle.tb_token.specs.grammar.Terminals.{keyword, sign, name}

@@ -2,7 +2,7 @@
 use Rattle.std.specs.Prelude.{◌≡◌, ℕ, List, [], ◌∷◌, Option, Some, None, Result, Ok, Err, ⊤}
 use Rattle.std.proofs.Common.{Vec, Global}
 use Rattle.tb_token.specs.grammar.Grammar.{Tok}
-use Rattle.tb_token.specs.grammar.Words.{IsWrongAt}
+use Rattle.tb_token.specs.grammar.Sentences.{IsWrongAt}
 use Rattle.tb_token.specs.declared.lexer.token.Token.{Token}
 use Rattle.tb_token.specs.grammar.Queries.{rules, query}
 use Rattle.tb_token.specs.reading.Calls as reading

@@ -2,7 +2,7 @@
 -- text.
 use Rattle.std.specs.Prelude.{◌≡◌, ℕ, ◌-◌, if◌then◌else◌, List, [], ◌∷◌, ◌++◌, length, take, Option, Some, None}
 use Rattle.tb_token.specs.grammar.Grammar.{Tok}
-use Rattle.tb_token.specs.grammar.Words.{Tree, leaf, pair, first, second, Derives}
+use Rattle.tb_token.specs.grammar.Sentences.{Tree, leaf, pair, first, second, Derives}
 use Rattle.tb_token.specs.grammar.Queries.{rules, query}
 use Rattle.tb_flwor.specs.Variables.{is_known, bound, first_repeated, first_unknown}
 

@@ -2,7 +2,7 @@
 -- answered, and of one kind the first by the number of its token, or by its byte.
 use Rattle.std.specs.Prelude.{◌≡◌, ◌≢◌, ℕ, ◌<◌, ◌≤◌, Bool, if◌then◌else◌, nat_lt, List, [], ◌∷◌, length, Option, Some, None, ⊤}
 use Rattle.tb_token.specs.grammar.Grammar.{Tok}
-use Rattle.tb_token.specs.grammar.Words.{AreWord, IsWrongAt}
+use Rattle.tb_token.specs.grammar.Sentences.{AreSentence, IsWrongAt}
 use Rattle.tb_token.specs.tokens.Cuts.{IsCut}
 use Rattle.tb_token.specs.tokens.Letters.{toks_of}
 use Rattle.tb_token.specs.grammar.Queries.{rules, query}
@@ -54,7 +54,7 @@ first_fault s =
 
 -- the tokens are a query
 abbrev pub AreQuery : List Tok → Type 0
-AreQuery s = AreWord rules (query ∷ []) s
+AreQuery s = AreSentence rules (query ∷ []) s
 
 -- the tokens are a query, and have none of these faults
 abbrev pub AreFaultless : List Tok → Type 0

@@ -1,6 +1,6 @@
 -- What the tree behind RETURN stands for, production by production.
 use Rattle.std.specs.Prelude.{List, [], ◌∷◌}
-use Rattle.tb_token.specs.grammar.Words.{Tree, pair, first, second}
+use Rattle.tb_token.specs.grammar.Sentences.{Tree, pair, first, second}
 use Rattle.tb_pattern.specs.Value.{bytes_in, inside}
 use Rattle.tb_query.specs.Parts.{PlainCons, element, PlainParts, no_parts, inner, content, PlainBack, nodes_back, cons_back}
 use Rattle.tb_query.specs.declared.back.AttrPart.{AttrPart}

@@ -1,7 +1,7 @@
 -- What a query of clauses returns, in its tokens and in its tree.
 use Rattle.std.specs.Prelude.{◌≡◌, List, [], ◌∷◌, ◌++◌}
 use Rattle.tb_token.specs.grammar.Grammar.{Tok}
-use Rattle.tb_token.specs.grammar.Words.{Tree, leaf, nothing, pair, first, second, Derives}
+use Rattle.tb_token.specs.grammar.Sentences.{Tree, leaf, nothing, pair, first, second, Derives}
 use Rattle.tb_token.specs.grammar.Queries.{rules, query}
 use Rattle.tb_flwor.specs.Constructors.{results}
 

@@ -2,7 +2,7 @@
 -- bound in it, in order. A tree of another form is that of no query, and what it stands for here is
 -- never asked.
 use Rattle.std.specs.Prelude.{ℕ, Bool, ◌==◌, if◌then◌else◌, List, [], ◌∷◌, ◌++◌, codes, Option, Some, None}
-use Rattle.tb_token.specs.grammar.Words.{Tree, nothing, pair, first, second}
+use Rattle.tb_token.specs.grammar.Sentences.{Tree, nothing, pair, first, second}
 use Rattle.tb_token.specs.tokens.Letters.{letter_of, place_in}
 use Rattle.tb_token.specs.declared.lexer.token.Kind.TheVariants as kind
 use Rattle.tb_number.specs.declared.agg.AggKind.{AggKind}

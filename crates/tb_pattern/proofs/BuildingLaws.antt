@@ -2,7 +2,7 @@
 use Rattle.std.proofs.Common.{◌≡◌, ℕ, Bool, true, false, cond, List, [], ◌∷◌, drop, Option, Some, None, refl, sym, ap, ◌∙◌}
 use Rattle.std.specs.Prelude.{codes}
 use Rattle.tb_token.specs.grammar.Grammar.{Tok, Part, one, both, either, maybe, opened, has}
-use Rattle.tb_token.specs.grammar.Words.{Tree, leaf, nothing, pair, first, second, by_one, by_both, by_first, by_second, left_out, put_in, by_rule}
+use Rattle.tb_token.specs.grammar.Sentences.{Tree, leaf, nothing, pair, first, second, by_one, by_both, by_first, by_second, left_out, put_in, by_rule}
 use Rattle.tb_token.specs.grammar.Reading.{is_filled, own_starts, after, read}
 use Rattle.tb_token.proofs.grammar.PlaceLaws.{read-both, read-first, read-second, read-put_in, read-left_out, read-one, read-rule}
 use Rattle.tb_token.proofs.grammar.LetterLaws.{none-true}

@@ -3,7 +3,7 @@ use Rattle.std.proofs.Common.{◌≡◌, ℕ, Bool, true, false, cond, ◌==◌,
 use Rattle.std.specs.Prelude.{ℤ, codes}
 use Rattle.std.specs.Option.{unwrap_or}
 use Rattle.tb_token.specs.grammar.Grammar.{Tok, Part, both, maybe, many, has}
-use Rattle.tb_token.specs.grammar.Words.{Tree, leaf, nothing, pair, second, by_one, by_both, by_second, left_out, put_in}
+use Rattle.tb_token.specs.grammar.Sentences.{Tree, leaf, nothing, pair, second, by_one, by_both, by_second, left_out, put_in}
 use Rattle.tb_token.proofs.grammar.PlaceLaws.{read-both, read-second, read-put_in, read-left_out, read-one}
 use Rattle.tb_token.proofs.grammar.LetterLaws.{none-true, has-only}
 use Rattle.tb_number.specs.IntText.{signed, number_of}

@@ -2,7 +2,7 @@
 use Rattle.std.proofs.Common.{◌≡◌, ℕ, Bool, true, false, ◌≤◌, List, [], ◌∷◌, ◌++◌, length, drop, refl, sym, ap, ◌∙◌, arith, length-drop}
 use Rattle.std.specs.Prelude.{codes}
 use Rattle.tb_token.specs.grammar.Grammar.{Tok, Part, both, maybe, many}
-use Rattle.tb_token.specs.grammar.Words.{Tree, nothing, pair}
+use Rattle.tb_token.specs.grammar.Sentences.{Tree, nothing, pair}
 use Rattle.tb_token.specs.grammar.Terminals.{sign, comma}
 use Rattle.tb_token.specs.grammar.Patterns.{axis, mark, test, conds, edges, edge, edges_rest}
 use Rattle.tb_token.specs.tokens.LetterNames as letters

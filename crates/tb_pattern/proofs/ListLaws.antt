@@ -2,7 +2,7 @@
 use Rattle.std.proofs.Common.{◌≡◌, ℕ, Bool, true, false, List, [], ◌∷◌, drop, Some, refl, sym, ap, ◌∙◌}
 use Rattle.std.specs.Prelude.{codes}
 use Rattle.tb_token.specs.grammar.Grammar.{Tok, Part, one, both, many}
-use Rattle.tb_token.specs.grammar.Words.{Tree, leaf, nothing, pair, Derives, by_one, by_both, no_more, one_more}
+use Rattle.tb_token.specs.grammar.Sentences.{Tree, leaf, nothing, pair, Derives, by_one, by_both, no_more, one_more}
 use Rattle.tb_token.specs.grammar.Reading.{read}
 use Rattle.tb_token.proofs.grammar.PlaceLaws.{read-both, read-one_more, read-no_more, read-one}
 use Rattle.tb_token.proofs.grammar.LetterLaws.{none-true}

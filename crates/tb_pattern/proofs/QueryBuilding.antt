@@ -2,7 +2,7 @@
 use Rattle.std.proofs.Common.{◌≡◌, ℕ, false, List, [], ◌∷◌, drop, Option, Some, None, refl, sym, ap, ◌∙◌, drop-drop}
 use Rattle.std.specs.Prelude.{codes}
 use Rattle.tb_token.specs.grammar.Grammar.{Tok, both}
-use Rattle.tb_token.specs.grammar.Words.{Tree, pair, Derives, at_end}
+use Rattle.tb_token.specs.grammar.Sentences.{Tree, pair, Derives, at_end}
 use Rattle.tb_token.specs.grammar.Reading.{read}
 use Rattle.tb_token.proofs.grammar.ReadLaws.{read-wrong}
 use Rattle.tb_token.specs.tokens.Letters.{HaveDigits}

@@ -4,7 +4,7 @@ use Rattle.std.specs.Prelude.{Result, Ok, Err, IfOk, IsTrue}
 use Rattle.tb_token.specs.grammar.Grammar.{Tok}
 use Rattle.tb_token.specs.grammar.Decided.{is_decided, is_easy, AreGood}
 use Rattle.tb_token.proofs.grammar.LetterLaws.{none-true}
-use Rattle.tb_token.proofs.grammar.RuleLaws.{calls, Agree, word-by, wrong-by}
+use Rattle.tb_token.proofs.grammar.RuleLaws.{calls, Agree, sentence-by, wrong-by}
 use Rattle.tb_token.specs.grammar.Terminals.{name}
 use Rattle.tb_token.specs.grammar.Patterns.{edges_rest, match_query}
 use Rattle.tb_token.specs.grammar.Queries.{rules, follow}
@@ -48,7 +48,7 @@ agree : Agree is_first match_rules rules
 agree = record { same = same-rules; within = first-calls }
 
 match-read : (s : List Tok) (wrong : Option ℕ) → FirstWrong match_rules match_query s wrong → FirstWrong rules match_query s wrong
-match-read s None keyword = word-by is_first match_rules rules agree (match_query ∷ []) (refl, tt) s keyword
+match-read s None keyword = sentence-by is_first match_rules rules agree (match_query ∷ []) (refl, tt) s keyword
 match-read s (Some k) wrong = wrong-by is_first match_rules rules agree (match_query ∷ []) (refl, tt) s k wrong
 
 pub if-read : {E : Type 0} (o : Result (Option ℕ) E) (g : Grammar) (s : List Tok) → IfOk o (IsRead g s) → Says g match_rules match_query → IfOk o (FirstWrong rules match_query s)

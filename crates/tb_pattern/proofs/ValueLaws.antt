@@ -2,7 +2,7 @@
 use Rattle.std.proofs.Common.{◌≡◌, ℕ, true, false, List, [], ◌∷◌, refl, sym, ap, ◌∙◌, pos, negsuc}
 use Rattle.std.specs.Prelude.{codes}
 use Rattle.tb_token.specs.grammar.Grammar.{Tok}
-use Rattle.tb_token.specs.grammar.Words.{Tree, leaf, nothing, pair, first, second}
+use Rattle.tb_token.specs.grammar.Sentences.{Tree, leaf, nothing, pair, first, second}
 use Rattle.tb_token.proofs.grammar.TreeLaws.{one-tree}
 use Rattle.tb_token.specs.tokens.Letters.{letter_of}
 use Rattle.tb_token.specs.grammar.Queries.{rules, follow}

@@ -1,7 +1,7 @@
 -- What the program builds of a query without fault, from the beginning of its tokens on.
 use Rattle.std.specs.Prelude.{◌≡◌, ℕ, Bool, false, List, [], ◌∷◌, Some, None}
 use Rattle.tb_token.specs.grammar.Grammar.{Tok, Part, has}
-use Rattle.tb_token.specs.grammar.Words.{Tree, leaf, nothing, Derives}
+use Rattle.tb_token.specs.grammar.Sentences.{Tree, leaf, nothing, Derives}
 use Rattle.tb_token.specs.grammar.Reading.{read}
 use Rattle.tb_token.specs.tokens.Letters.{HaveDigits}
 use Rattle.tb_token.specs.grammar.Queries.{rules}

@@ -2,7 +2,7 @@
 use Rattle.std.specs.Prelude.{◌≡◌, ℕ, Bool, false, List, [], ◌∷◌, codes, pos}
 use Rattle.std.specs.Option.{unwrap_or}
 use Rattle.tb_token.specs.grammar.Grammar.{Tok, Part, both, either}
-use Rattle.tb_token.specs.grammar.Words.{Tree, pair, first, second}
+use Rattle.tb_token.specs.grammar.Sentences.{Tree, pair, first, second}
 use Rattle.tb_token.specs.grammar.Patterns.{cmp, literal, match_query}
 use Rattle.tb_token.specs.grammar.Terminals.{sign, name}
 use Rattle.tb_tree.specs.declared.node_test.Test.{Test}

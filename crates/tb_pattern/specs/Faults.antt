@@ -3,7 +3,7 @@ use Rattle.std.specs.Prelude.{◌≡◌, ℕ, ◌+◌, ◌-◌, ◌<◌, ◌≤�
 use Rattle.std.specs.Prelude.{if◌then◌else◌, List, [], ◌∷◌, map, codes, ℤ, Option, Some, None, ⊤}
 use Rattle.std.specs.Option.{option_and_then}
 use Rattle.tb_token.specs.grammar.Grammar.{Tok, has}
-use Rattle.tb_token.specs.grammar.Words.{IsWrongAt}
+use Rattle.tb_token.specs.grammar.Sentences.{IsWrongAt}
 use Rattle.tb_number.specs.Range.{within_range}
 use Rattle.tb_number.specs.Reading.{integer_of}
 use Rattle.tb_token.specs.grammar.Patterns.{match_query}

@@ -2,7 +2,7 @@
 -- form is that of no query, and what it stands for here is never asked.
 use Rattle.std.specs.Prelude.{◌≡◌, ℕ, ◌-◌, Bool, true, false, if◌then◌else◌, List, [], ◌∷◌, length, take, drop, codes}
 use Rattle.tb_token.specs.grammar.Grammar.{Tok}
-use Rattle.tb_token.specs.grammar.Words.{Tree, leaf, nothing, pair, first, second, Derives}
+use Rattle.tb_token.specs.grammar.Sentences.{Tree, leaf, nothing, pair, first, second, Derives}
 use Rattle.tb_number.specs.IntText.{signed, number_of}
 use Rattle.tb_number.specs.declared.op.CmpOp.{CmpOp}
 use Rattle.tb_number.specs.declared.op.CmpOp.TheVariants as op

@@ -1,6 +1,6 @@
 pub mod LetterLaws
 pub mod StartLaws
-pub mod WordLaws
+pub mod SentenceLaws
 pub mod ReadLaws
 pub mod RuleLaws
 pub mod TreeLaws

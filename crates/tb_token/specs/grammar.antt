@@ -1,7 +1,7 @@
 -- Grammars of tokens, from their parts to the place where a list is wrong; then how one token of
 -- look-ahead reads them, when that decides, and what holds then; and last the grammar of queries.
 pub mod Grammar
-pub mod Words
+pub mod Sentences
 pub mod Reading
 pub mod Decided
 pub mod Places

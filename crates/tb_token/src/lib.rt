@@ -4,7 +4,7 @@
 //! or finds the first place at which none begins (`cut`), and that there is one such cut (`once`);
 //! that `lexemes` gives the tokens as the grammar sees them; of every grammar that one token of
 //! look-ahead decides, that it gives one tree (`tree`) and that `first_wrong` finds the first token
-//! that begins no word of it with those before; and that the grammar of queries is one of these
+//! that begins no sentence of it with those before; and that the grammar of queries is one of these
 //! (`readable`).
 #![tactic(auto)]
 

@@ -3,7 +3,7 @@ use Rattle.std.proofs.Common.{◌≡◌, ℕ, ◌+◌, ◌-◌, ◌<◌, ◌≤�
 use Rattle.std.proofs.lemmas.Bool.{or_parts}
 use Rattle.std.proofs.lemmas.List.{drop_all}
 use Rattle.tb_token.specs.grammar.Grammar.{Tok, Part, one, both, either, maybe, many, opened, Rules, has}
-use Rattle.tb_token.specs.grammar.Words.{Tree, leaf, nothing, pair, first, second, by_one, by_both, by_first, by_second, left_out, put_in, no_more, one_more, by_rule, at_end, IsWrongAt}
+use Rattle.tb_token.specs.grammar.Sentences.{Tree, leaf, nothing, pair, first, second, by_one, by_both, by_first, by_second, left_out, put_in, no_more, one_more, by_rule, at_end, IsWrongAt}
 use Rattle.tb_token.specs.grammar.Reading.{is_filled, may_end, starts, own_starts, takes, after, read}
 use Rattle.tb_token.specs.grammar.Decided.{AreDecided, AreGood}
 use Rattle.tb_token.specs.grammar.Laws.{PlacesAreRight}
@@ -11,7 +11,7 @@ use Rattle.tb_token.specs.grammar.Places.{Stands, Stops, IsAt, chain, Repeats}
 use Rattle.tb_token.proofs.grammar.LetterLaws.{none-true, has-left, has-right}
 use Rattle.tb_token.proofs.grammar.ReadLaws.{takes-filled, read-wrong}
 
--- A letter that no word of the part begins with, or none of what may follow where it may be empty.
+-- A letter that no sentence of the part begins with, or none of what may follow where it may be empty.
 
 not-left : (xs ys : List ℕ) (x : ℕ) → has (xs ++ ys) x ≡ false → has xs x ≡ false
 not-left xs ys x none = by (has xs x) refl

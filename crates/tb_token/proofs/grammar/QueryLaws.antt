@@ -1,10 +1,10 @@
 -- The grammar of queries is one that the next token decides, and its paths are those of its text.
 use Rattle.std.proofs.Common.{◌≡◌, ℕ, zero, suc, true, List, [], ◌∷◌, refl}
 use Rattle.tb_token.specs.grammar.Grammar.{Tok, Part, one, both, either, many, Rules}
-use Rattle.tb_token.specs.grammar.Words.{Tree, Derives, by_one, by_both, by_first, by_second, no_more, one_more, AreWord}
+use Rattle.tb_token.specs.grammar.Sentences.{Tree, Derives, by_one, by_both, by_first, by_second, no_more, one_more, AreSentence}
 use Rattle.tb_token.specs.grammar.Decided.{is_decided, is_easy}
 use Rattle.tb_token.proofs.grammar.TreeLaws.{one-tree}
-use Rattle.tb_token.proofs.grammar.WordLaws.{word-one, word-both, word-first, word-second, word-no_more, word-one_more}
+use Rattle.tb_token.proofs.grammar.SentenceLaws.{sentence-one, sentence-both, sentence-first, sentence-second, sentence-no_more, sentence-one_more}
 use Rattle.tb_token.specs.grammar.Patterns.{doc}
 use Rattle.tb_token.specs.grammar.Paths.{step}
 use Rattle.tb_token.specs.grammar.Queries.{rules, follow}
@@ -38,25 +38,25 @@ one-query s v w d e = first-tree v w (one-tree rules follow readable.good readab
 
 module _ (rules : Rules) (p q : Part) (c : List ℕ) (ps : List Part) where
   abbrev Decided : List Tok → Type 0
-  Decided s = AreWord rules (either (both p (both q (many q))) (both (one c) (many q)) ∷ ps) s
+  Decided s = AreSentence rules (either (both p (both q (many q))) (both (one c) (many q)) ∷ ps) s
 
   abbrev Written : List Tok → Type 0
-  Written s = AreWord rules (either (both (either p (one c)) (both q (many q))) (one c) ∷ ps) s
+  Written s = AreSentence rules (either (both (either p (one c)) (both q (many q))) (one c) ∷ ps) s
 
   long-written : {vs : List Tree} {s : List Tok} → Derives rules (p ∷ both q (many q) ∷ ps) vs s → Written s
   long-written {vs = vs} {s = s} w =
-      word-first rules (both (either p (one c)) (both q (many q))) (one c) ps s
-      (word-both rules (either p (one c)) (both q (many q)) ps s
-      (word-first rules p (one c) (both q (many q) ∷ ps) s (vs, w)))
+      sentence-first rules (both (either p (one c)) (both q (many q))) (one c) ps s
+      (sentence-both rules (either p (one c)) (both q (many q)) ps s
+      (sentence-first rules p (one c) (both q (many q) ∷ ps) s (vs, w)))
 
   more-written : {vs : List Tree} {s : List Tok} → Derives rules (one c ∷ many q ∷ ps) vs s → Written s
   more-written (by_one {t = t} {s = u} h (no_more {vs = vs} w)) =
-      word-second rules (both (either p (one c)) (both q (many q))) (one c) ps (t ∷ u) (word-one rules c t ps u h (vs, w))
+      sentence-second rules (both (either p (one c)) (both q (many q))) (one c) ps (t ∷ u) (sentence-one rules c t ps u h (vs, w))
   more-written (by_one {t = t} {s = u} h (one_more {v = v} {w = x} {vs = vs} w)) =
-      word-first rules (both (either p (one c)) (both q (many q))) (one c) ps (t ∷ u)
-      (word-both rules (either p (one c)) (both q (many q)) ps (t ∷ u)
-      (word-second rules p (one c) (both q (many q) ∷ ps) (t ∷ u)
-      (word-one rules c t (both q (many q) ∷ ps) u h (word-both rules q (many q) ps u (v ∷ x ∷ vs, w)))))
+      sentence-first rules (both (either p (one c)) (both q (many q))) (one c) ps (t ∷ u)
+      (sentence-both rules (either p (one c)) (both q (many q)) ps (t ∷ u)
+      (sentence-second rules p (one c) (both q (many q) ∷ ps) (t ∷ u)
+      (sentence-one rules c t (both q (many q) ∷ ps) u h (sentence-both rules q (many q) ps u (v ∷ x ∷ vs, w)))))
 
   decided-written : {vs : List Tree} {s : List Tok} → Derives rules (either (both p (both q (many q))) (both (one c) (many q)) ∷ ps) vs s → Written s
   decided-written (by_first (by_both w)) = long-written w
@@ -64,18 +64,18 @@ module _ (rules : Rules) (p q : Part) (c : List ℕ) (ps : List Part) where
 
   long-decided : {vs : List Tree} {s : List Tok} → Derives rules (either p (one c) ∷ both q (many q) ∷ ps) vs s → Decided s
   long-decided {s = s} (by_first {v = v} {vs = vs} w) =
-      word-first rules (both p (both q (many q))) (both (one c) (many q)) ps s (word-both rules p (both q (many q)) ps s (v ∷ vs, w))
+      sentence-first rules (both p (both q (many q))) (both (one c) (many q)) ps s (sentence-both rules p (both q (many q)) ps s (v ∷ vs, w))
   long-decided (by_second (by_one {t = t} {s = u} h (by_both {v = v} {w = x} {vs = vs} w))) =
-      word-second rules (both p (both q (many q))) (both (one c) (many q)) ps (t ∷ u)
-      (word-both rules (one c) (many q) ps (t ∷ u) (word-one rules c t (many q ∷ ps) u h (word-one_more rules q ps u (v ∷ x ∷ vs, w))))
+      sentence-second rules (both p (both q (many q))) (both (one c) (many q)) ps (t ∷ u)
+      (sentence-both rules (one c) (many q) ps (t ∷ u) (sentence-one rules c t (many q ∷ ps) u h (sentence-one_more rules q ps u (v ∷ x ∷ vs, w))))
 
   written-decided : {vs : List Tree} {s : List Tok} → Derives rules (either (both (either p (one c)) (both q (many q))) (one c) ∷ ps) vs s → Decided s
   written-decided (by_first (by_both w)) = long-decided w
   written-decided (by_second (by_one {t = t} {vs = vs} {s = u} h w)) =
-      word-second rules (both p (both q (many q))) (both (one c) (many q)) ps (t ∷ u)
-      (word-both rules (one c) (many q) ps (t ∷ u) (word-one rules c t (many q ∷ ps) u h (word-no_more rules q ps u (vs, w))))
+      sentence-second rules (both p (both q (many q))) (both (one c) (many q)) ps (t ∷ u)
+      (sentence-both rules (one c) (many q) ps (t ∷ u) (sentence-one rules c t (many q ∷ ps) u h (sentence-no_more rules q ps u (vs, w))))
 
 pub is-written_path : IsWrittenPath
 is-written_path ps s =
     let c = letters.VARIABLE ∷ [] in
-    (λ word. decided-written rules doc step c ps word.1, λ word. written-decided rules doc step c ps word.1)
+    (λ sentence. decided-written rules doc step c ps sentence.1, λ sentence. written-decided rules doc step c ps sentence.1)

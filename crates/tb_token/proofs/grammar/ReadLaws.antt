@@ -1,12 +1,12 @@
--- A reading with one token of look-ahead goes on exactly as far as a word can.
+-- A reading with one token of look-ahead goes on exactly as far as a sentence can.
 use Rattle.std.proofs.Common.{◌≡◌, ◌⊎◌, inl, inr, ⊎_elim, ℕ, zero, suc, ◌+◌, ◌-◌, ◌<◌, ◌≤◌, Bool, true, false, cond, List, [], ◌∷◌, ◌++◌, length, take, Option, Some, None, refl, sym, ap, ◌∙◌, arith, append-nil}
 use Rattle.std.proofs.lemmas.Bool.{and_parts, or_cases}
 use Rattle.tb_token.specs.grammar.Grammar.{Tok, Part, one, both, either, maybe, many, opened, Rules, has}
-use Rattle.tb_token.specs.grammar.Words.{Tree, Derives, by_one, by_both, by_first, by_second, left_out, put_in, no_more, one_more, by_rule, AreWord, Begin, IsWrongAt}
+use Rattle.tb_token.specs.grammar.Sentences.{Tree, Derives, by_one, by_both, by_first, by_second, left_out, put_in, no_more, one_more, by_rule, AreSentence, Begin, IsWrongAt}
 use Rattle.tb_token.specs.grammar.Reading.{is_filled, may_end, own_starts, takes, after, read}
 use Rattle.tb_token.specs.grammar.Decided.{are_apart, all_starts, AreDecided, AreGood}
 use Rattle.tb_token.proofs.grammar.LetterLaws.{none-true, apart-none}
-use Rattle.tb_token.proofs.grammar.WordLaws.{both-decided, first-decided, second-decided, maybe-decided, many-decided, rule-decided, either-filled, maybe-filled, many-filled, word-starts, own-starts, none-ends, word-one, word-both, word-first, word-second, word-left_out, word-put_in, word-no_more, word-one_more, word-rule, none-word, have-word}
+use Rattle.tb_token.proofs.grammar.SentenceLaws.{both-decided, first-decided, second-decided, maybe-decided, many-decided, rule-decided, either-filled, maybe-filled, many-filled, sentence-starts, own-starts, none-ends, sentence-one, sentence-both, sentence-first, sentence-second, sentence-left_out, sentence-put_in, sentence-no_more, sentence-one_more, sentence-rule, none-sentence, have-sentence}
 
 some-is : {A : Type 0} (x y : A) → ◌≡◌ {A = Option A} (Some x) (Some y) → x ≡ y
 some-is x y e = cc
@@ -23,40 +23,40 @@ if-cases : {A : Type 0} (b : Bool) (o u : Option A) (y : A) → cond b o u ≡ S
 if-cases true o u y e = inl (refl, e)
 if-cases false o u y e = inr (refl, e)
 
--- What the reading takes, words take.
+-- What the reading takes, sentences take.
 
 module _ (rules : Rules) (t : Tok) (s : List Tok) where
-  -- from what is still to come once the parts have taken the token, the rest is a word
+  -- from what is still to come once the parts have taken the token, the rest is a sentence
   abbrev Leads : Option (List Part) → List Part → Type 0
-  Leads o ps = (hs : List Part) → o ≡ Some hs → AreWord rules hs s → AreWord rules ps (t ∷ s)
+  Leads o ps = (hs : List Part) → o ≡ Some hs → AreSentence rules hs s → AreSentence rules ps (t ∷ s)
 
   none-leads : (ps : List Part) → Leads None ps
-  none-leads ps = λ hs e word. none-some hs e
+  none-leads ps = λ hs e sentence. none-some hs e
 
   takes-leads : (p : Part) (ps : List Part) (o : Option (List Part)) → Leads o ps → Leads (takes rules p t.letter ps o) (p ∷ ps)
-  takes-leads (one c) ps o leads = λ hs e word.
+  takes-leads (one c) ps o leads = λ hs e sentence.
       let is = if-some (has c t.letter) ps hs e in
-      word-one rules c t ps s is.0 (rw is.1 word)
-  takes-leads (both p q) ps o leads = λ hs e word.
-      word-both rules p q ps (t ∷ s) (takes-leads p (q ∷ ps) (takes rules q t.letter ps o) (takes-leads q ps o leads) hs e word)
-  takes-leads (either p q) ps o leads = λ hs e word.
+      sentence-one rules c t ps s is.0 (rw is.1 sentence)
+  takes-leads (both p q) ps o leads = λ hs e sentence.
+      sentence-both rules p q ps (t ∷ s) (takes-leads p (q ∷ ps) (takes rules q t.letter ps o) (takes-leads q ps o leads) hs e sentence)
+  takes-leads (either p q) ps o leads = λ hs e sentence.
       ⊎_elim
-      (λ one_is. word-first rules p q ps (t ∷ s) (takes-leads p ps o leads hs one_is.1 word))
-      (λ two_is. word-second rules p q ps (t ∷ s) (takes-leads q ps o leads hs two_is.1 word))
+      (λ one_is. sentence-first rules p q ps (t ∷ s) (takes-leads p ps o leads hs one_is.1 sentence))
+      (λ two_is. sentence-second rules p q ps (t ∷ s) (takes-leads q ps o leads hs two_is.1 sentence))
       (if-cases (has (own_starts p) t.letter) (takes rules p t.letter ps o) (takes rules q t.letter ps o) hs e)
-  takes-leads (maybe p) ps o leads = λ hs e word.
+  takes-leads (maybe p) ps o leads = λ hs e sentence.
       ⊎_elim
-      (λ one_is. word-put_in rules p ps (t ∷ s) (takes-leads p ps o leads hs one_is.1 word))
-      (λ two_is. word-left_out rules p ps (t ∷ s) (leads hs two_is.1 word))
+      (λ one_is. sentence-put_in rules p ps (t ∷ s) (takes-leads p ps o leads hs one_is.1 sentence))
+      (λ two_is. sentence-left_out rules p ps (t ∷ s) (leads hs two_is.1 sentence))
       (if-cases (has (own_starts p) t.letter) (takes rules p t.letter ps o) o hs e)
-  takes-leads (many p) ps o leads = λ hs e word.
+  takes-leads (many p) ps o leads = λ hs e sentence.
       ⊎_elim
-      (λ one_is. word-one_more rules p ps (t ∷ s) (takes-leads p (many p ∷ ps) None (none-leads (many p ∷ ps)) hs one_is.1 word))
-      (λ two_is. word-no_more rules p ps (t ∷ s) (leads hs two_is.1 word))
+      (λ one_is. sentence-one_more rules p ps (t ∷ s) (takes-leads p (many p ∷ ps) None (none-leads (many p ∷ ps)) hs one_is.1 sentence))
+      (λ two_is. sentence-no_more rules p ps (t ∷ s) (leads hs two_is.1 sentence))
       (if-cases (has (own_starts p) t.letter) (takes rules p t.letter (many p ∷ ps) None) o hs e)
-  takes-leads (opened c n) ps o leads = λ hs e word.
+  takes-leads (opened c n) ps o leads = λ hs e sentence.
       let is = if-some (has c t.letter) (rules n ∷ ps) hs e in
-      word-rule rules c n t ps s is.0 (rw is.1 word)
+      sentence-rule rules c n t ps s is.0 (rw is.1 sentence)
 
   pub after-leads : (ps : List Part) → Leads (after rules ps t.letter) ps
   after-leads [] = none-leads []
@@ -88,52 +88,52 @@ none-by xs ys x apart there = by (has xs x) refl
     by false e = refl
 
 module _ (rules : Rules) (follow : ℕ → List ℕ) (good : AreGood rules follow) where
-  -- What words take, the reading takes.
+  -- What sentences take, the reading takes.
 
-  -- the reading takes the token, and the rest is a word of what is still to come
+  -- the reading takes the token, and the rest is a sentence of what is still to come
   pub record GoesOn (ps : List Part) (t : Tok) (s : List Tok) : Type 0 where
     pub to_come : List Part
     pub goes : after rules ps t.letter ≡ Some to_come
-    pub word : AreWord rules to_come s
+    pub sentence : AreSentence rules to_come s
 
-  pub word-goes : {ps : List Part} {vs : List Tree} {t : Tok} {s : List Tok} → AreDecided follow ps → Derives rules ps vs (t ∷ s) → GoesOn ps t s
-  word-goes {s = s} d (by_one {ps = ps} {vs = vs} h w) = record { to_come = ps; goes = rw h refl; word = (vs, w) }
-  word-goes d (by_both {p = p} {q = q} {ps = ps} w) =
-      let on = word-goes (both-decided rules follow good p q ps d) w in
-      record { to_come = on.to_come; goes = on.goes; word = on.word }
-  word-goes d (by_first {p = p} {q = q} {ps = ps} w) =
+  pub sentence-goes : {ps : List Part} {vs : List Tree} {t : Tok} {s : List Tok} → AreDecided follow ps → Derives rules ps vs (t ∷ s) → GoesOn ps t s
+  sentence-goes {s = s} d (by_one {ps = ps} {vs = vs} h w) = record { to_come = ps; goes = rw h refl; sentence = (vs, w) }
+  sentence-goes d (by_both {p = p} {q = q} {ps = ps} w) =
+      let on = sentence-goes (both-decided rules follow good p q ps d) w in
+      record { to_come = on.to_come; goes = on.goes; sentence = on.sentence }
+  sentence-goes d (by_first {p = p} {q = q} {ps = ps} w) =
       let filled = either-filled rules follow good p q ps d in
       let here = own-starts rules follow good (first-decided rules follow good p q ps d) filled.0 w in
-      let on = word-goes (first-decided rules follow good p q ps d) w in
-      record { to_come = on.to_come; goes = rw here on.goes; word = on.word }
-  word-goes {t = t} d (by_second {p = p} {q = q} {ps = ps} w) =
+      let on = sentence-goes (first-decided rules follow good p q ps d) w in
+      record { to_come = on.to_come; goes = rw here on.goes; sentence = on.sentence }
+  sentence-goes {t = t} d (by_second {p = p} {q = q} {ps = ps} w) =
       let filled = either-filled rules follow good p q ps d in
       let there = own-starts rules follow good (second-decided rules follow good p q ps d) filled.1 w in
       let other = none-by (own_starts p) (own_starts q) t.letter filled.2 there in
-      let on = word-goes (second-decided rules follow good p q ps d) w in
-      record { to_come = on.to_come; goes = rw other on.goes; word = on.word }
-  word-goes {t = t} d (left_out {p = p} {ps = ps} w) =
+      let on = sentence-goes (second-decided rules follow good p q ps d) w in
+      record { to_come = on.to_come; goes = rw other on.goes; sentence = on.sentence }
+  sentence-goes {t = t} d (left_out {p = p} {ps = ps} w) =
       let filled = maybe-filled rules follow good p ps d in
-      let other = none-by (own_starts p) (all_starts ps) t.letter filled.1 (word-starts rules follow good d.1 w) in
-      let on = word-goes d.1 w in
-      record { to_come = on.to_come; goes = rw other on.goes; word = on.word }
-  word-goes d (put_in {p = p} {ps = ps} w) =
+      let other = none-by (own_starts p) (all_starts ps) t.letter filled.1 (sentence-starts rules follow good d.1 w) in
+      let on = sentence-goes d.1 w in
+      record { to_come = on.to_come; goes = rw other on.goes; sentence = on.sentence }
+  sentence-goes d (put_in {p = p} {ps = ps} w) =
       let filled = maybe-filled rules follow good p ps d in
       let here = own-starts rules follow good (maybe-decided rules follow good p ps d) filled.0 w in
-      let on = word-goes (maybe-decided rules follow good p ps d) w in
-      record { to_come = on.to_come; goes = rw here on.goes; word = on.word }
-  word-goes {t = t} d (no_more {p = p} {ps = ps} w) =
+      let on = sentence-goes (maybe-decided rules follow good p ps d) w in
+      record { to_come = on.to_come; goes = rw here on.goes; sentence = on.sentence }
+  sentence-goes {t = t} d (no_more {p = p} {ps = ps} w) =
       let filled = many-filled rules follow good p ps d in
-      let other = none-by (own_starts p) (all_starts ps) t.letter filled.1 (word-starts rules follow good d.1 w) in
-      let on = word-goes d.1 w in
-      record { to_come = on.to_come; goes = rw other on.goes; word = on.word }
-  word-goes {t = t} d (one_more {p = p} {ps = ps} w) =
+      let other = none-by (own_starts p) (all_starts ps) t.letter filled.1 (sentence-starts rules follow good d.1 w) in
+      let on = sentence-goes d.1 w in
+      record { to_come = on.to_come; goes = rw other on.goes; sentence = on.sentence }
+  sentence-goes {t = t} d (one_more {p = p} {ps = ps} w) =
       let filled = many-filled rules follow good p ps d in
       let here = own-starts rules follow good (many-decided rules follow good p ps d) filled.0 w in
-      let on = word-goes (many-decided rules follow good p ps d) w in
+      let on = sentence-goes (many-decided rules follow good p ps d) w in
       let same = takes-filled rules p t.letter (many p ∷ ps) None (after rules (many p ∷ ps) t.letter) filled.0 in
-      record { to_come = on.to_come; goes = rw (here, same) on.goes; word = on.word }
-  word-goes {s = s} d (by_rule {n = n} {ps = ps} {v = v} {vs = vs} h w) = record { to_come = rules n ∷ ps; goes = rw h refl; word = (v ∷ vs, w) }
+      record { to_come = on.to_come; goes = rw (here, same) on.goes; sentence = on.sentence }
+  sentence-goes {s = s} d (by_rule {n = n} {ps = ps} {v = v} {vs = vs} h w) = record { to_come = rules n ∷ ps; goes = rw h refl; sentence = (v ∷ vs, w) }
 
   -- What is still to come, is decided.
 
@@ -171,26 +171,26 @@ module _ (rules : Rules) (follow : ℕ → List ℕ) (good : AreGood rules follo
   after-decided [] x d = none-stays
   after-decided (p ∷ ps) x d = takes-decided p x ps (after rules ps x) d (after-decided ps x d.1)
 
-  -- A word's tokens and more begin as their first token does.
+  -- A sentence's tokens and more begin as their first token does.
   begin-goes : (ps : List Part) (t : Tok) (s : List Tok) (hs : List Part) → AreDecided follow ps → after rules ps t.letter ≡ Some hs → Begin rules ps (t ∷ s) → Begin rules hs s
   begin-goes ps t s hs d e begin =
-      let on = word-goes d begin.1.1 in
+      let on = sentence-goes d begin.1.1 in
       let same = some-is hs on.to_come (sym e ∙ on.goes) in
-      (begin.0, rw same on.word)
+      (begin.0, rw same on.sentence)
 
   begin-stops : {P : Type 0} (ps : List Part) (t : Tok) (s : List Tok) → AreDecided follow ps → after rules ps t.letter ≡ None → Begin rules ps (t ∷ s) → P
   begin-stops ps t s d e begin =
-      let on = word-goes d begin.1.1 in
+      let on = sentence-goes d begin.1.1 in
       none-some on.to_come (sym e ∙ on.goes)
 
   begin-none : (ps : List Part) → AreDecided follow ps → Begin rules ps []
-  begin-none ps d = have-word rules follow good ps d
+  begin-none ps d = have-sentence rules follow good ps d
 
   begin-more : (ps : List Part) (t : Tok) (s : List Tok) (hs : List Part) → after rules ps t.letter ≡ Some hs → Begin rules hs s → Begin rules ps (t ∷ s)
   begin-more ps t s hs e begin = (begin.0, after-leads rules t (s ++ begin.0) ps hs e begin.1)
 
-  begin-word : (ps : List Part) (s : List Tok) → AreWord rules ps s → Begin rules ps s
-  begin-word ps s word = ([], rw append-nil word)
+  begin-sentence : (ps : List Part) (s : List Tok) → AreSentence rules ps s → Begin rules ps s
+  begin-sentence ps s sentence = ([], rw append-nil sentence)
 
   -- the list is wrong at its first token
   wrong-first : (ps : List Part) (t : Tok) (s : List Tok) → AreDecided follow ps → after rules ps t.letter ≡ None → IsWrongAt rules ps (t ∷ s) 1
@@ -199,7 +199,7 @@ module _ (rules : Rules) (follow : ℕ → List ℕ) (good : AreGood rules follo
     within = omega arith;
     before = λ j below. let zero_is : j ≡ 0 = omega arith in rw zero_is (begin-none ps d);
     here = λ within begin. begin-stops ps t [] d e begin;
-    none = λ word. begin-stops ps t s d e (begin-word ps (t ∷ s) word);
+    none = λ sentence. begin-stops ps t s d e (begin-sentence ps (t ∷ s) sentence);
   }
 
   -- the list ends too early
@@ -209,7 +209,7 @@ module _ (rules : Rules) (follow : ℕ → List ℕ) (good : AreGood rules follo
     within = omega arith;
     before = λ j below. let zero_is : j ≡ 0 = omega arith in rw zero_is (begin-none ps d);
     here = λ within begin. absurd (omega arith);
-    none = λ word. none-true (may_end ps) e (none-ends word.1);
+    none = λ sentence. none-true (may_end ps) e (none-ends sentence.1);
   }
 
   before-more : (ps : List Part) (t : Tok) (s : List Tok) (hs : List Part) → AreDecided follow ps → after rules ps t.letter ≡ Some hs → (k : ℕ) → ((j : ℕ) → j < k → Begin rules hs (take j s))
@@ -224,10 +224,10 @@ module _ (rules : Rules) (follow : ℕ → List ℕ) (good : AreGood rules follo
     within = let le = wrong.within in omega arith;
     before = before-more ps t s hs d e k wrong.before;
     here = λ within begin. wrong.here (omega arith) (begin-goes ps t (take k s) hs d e begin);
-    none = λ word.
-        let on = word-goes d word.1 in
+    none = λ sentence.
+        let on = sentence-goes d sentence.1 in
         let same = some-is hs on.to_come (sym e ∙ on.goes) in
-        wrong.none (rw same on.word);
+        wrong.none (rw same on.sentence);
   }
 
   -- no more tokens are left than there are
@@ -268,15 +268,15 @@ module _ (rules : Rules) (follow : ℕ → List ℕ) (good : AreGood rules follo
           let size : suc (length s) - left + 1 ≡ suc (length s - left + 1) = omega arith in
           rw size (wrong-more ps t s hs (length s - left + 1) d f wrong)
 
-  -- Where the reading comes to the end, the list is a word.
-  pub read-word : (s : List Tok) (ps : List Part) → read rules s (Some ps) ≡ None → AreWord rules ps s
-  read-word [] ps e = by (may_end ps) refl e
+  -- Where the reading comes to the end, the list is a sentence.
+  pub read-sentence : (s : List Tok) (ps : List Part) → read rules s (Some ps) ≡ None → AreSentence rules ps s
+  read-sentence [] ps e = by (may_end ps) refl e
     where
-      by : (ends : Bool) → may_end ps ≡ ends → ◌≡◌ {A = Option ℕ} (cond ends None (Some 0)) None → AreWord rules ps []
-      by true f e = none-word rules ps f
+      by : (ends : Bool) → may_end ps ≡ ends → ◌≡◌ {A = Option ℕ} (cond ends None (Some 0)) None → AreSentence rules ps []
+      by true f e = none-sentence rules ps f
       by false f e = none-some 0 (sym e)
-  read-word (t ∷ s) ps e = by (after rules ps t.letter) refl e (λ hs f. read-word s hs f)
+  read-sentence (t ∷ s) ps e = by (after rules ps t.letter) refl e (λ hs f. read-sentence s hs f)
     where
-      by : (o : Option (List Part)) → after rules ps t.letter ≡ o → read rules s o ≡ None → ((hs : List Part) → read rules s (Some hs) ≡ None → AreWord rules hs s) → AreWord rules ps (t ∷ s)
+      by : (o : Option (List Part)) → after rules ps t.letter ≡ o → read rules s o ≡ None → ((hs : List Part) → read rules s (Some hs) ≡ None → AreSentence rules hs s) → AreSentence rules ps (t ∷ s)
       by None f e rest = none-some (1 + length s) (sym e)
       by (Some hs) f e rest = after-leads rules t s ps hs f (rest hs e)

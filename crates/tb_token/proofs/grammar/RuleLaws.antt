@@ -1,9 +1,9 @@
--- What is a word by some rules is one by all that agree with them where they are called.
+-- What is a sentence by some rules is one by all that agree with them where they are called.
 use Rattle.std.proofs.Common.{◌≡◌, ℕ, Bool, true, ◌&&◌, List, [], ◌∷◌, ◌++◌, length, take, sym, ap}
 use Rattle.std.specs.Prelude.{IsTrue, ⊤}
 use Rattle.std.proofs.lemmas.Bool.{and_parts}
 use Rattle.tb_token.specs.grammar.Grammar.{Tok, Part, one, both, either, maybe, many, opened, Rules}
-use Rattle.tb_token.specs.grammar.Words.{Tree, Derives, at_end, by_one, by_both, by_first, by_second, left_out, put_in, no_more, one_more, by_rule, AreWord, Begin, IsWrongAt}
+use Rattle.tb_token.specs.grammar.Sentences.{Tree, Derives, at_end, by_one, by_both, by_first, by_second, left_out, put_in, no_more, one_more, by_rule, AreSentence, Begin, IsWrongAt}
 
 -- the part calls such rules alone
 abbrev pub calls : (ℕ → Bool) → Part → Bool
@@ -52,17 +52,17 @@ module _ (may : ℕ → Bool) where
       by_rule h (rw same at (derives-by here there agree (agree.within n call.0, call.1) w))
 
   module _ (here there : Rules) (agree : Agree may here there) (ps : List Part) (call : Call may ps) where
-    pub word-by : (s : List Tok) → AreWord here ps s → AreWord there ps s
-    word-by s word = (word.0, derives-by here there agree call word.1)
+    pub sentence-by : (s : List Tok) → AreSentence here ps s → AreSentence there ps s
+    sentence-by s sentence = (sentence.0, derives-by here there agree call sentence.1)
 
-    word-back : (s : List Tok) → AreWord there ps s → AreWord here ps s
-    word-back s word = (word.0, derives-by there here (turned here there agree) call word.1)
+    sentence-back : (s : List Tok) → AreSentence there ps s → AreSentence here ps s
+    sentence-back s sentence = (sentence.0, derives-by there here (turned here there agree) call sentence.1)
 
     pub wrong-by : (s : List Tok) (k : ℕ) → IsWrongAt here ps s k → IsWrongAt there ps s k
     wrong-by s k wrong = record {
       some = wrong.some;
       within = wrong.within;
-      before = λ j below. let begin = wrong.before j below in (begin.0, word-by (take j s ++ begin.0) begin.1);
-      here = λ in_list begin. wrong.here in_list (begin.0, word-back (take k s ++ begin.0) begin.1);
-      none = λ word. wrong.none (word-back s word);
+      before = λ j below. let begin = wrong.before j below in (begin.0, sentence-by (take j s ++ begin.0) begin.1);
+      here = λ in_list begin. wrong.here in_list (begin.0, sentence-back (take k s ++ begin.0) begin.1);
+      none = λ sentence. wrong.none (sentence-back s sentence);
     }

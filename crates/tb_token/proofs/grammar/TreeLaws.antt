@@ -2,11 +2,11 @@
 use Rattle.std.proofs.Common.{◌≡◌, ◌⊎◌, inl, inr, ℕ, ◌<◌, true, List, [], ◌∷◌, refl, ap, arith}
 use Rattle.std.proofs.lemmas.Bool.{cases_order}
 use Rattle.tb_token.specs.grammar.Grammar.{Tok, Part, either, maybe, many, Rules, has}
-use Rattle.tb_token.specs.grammar.Words.{Tree, leaf, nothing, pair, first, second, Derives, at_end, by_one, by_both, by_first, by_second, left_out, put_in, no_more, one_more, by_rule, IsWrongAt}
+use Rattle.tb_token.specs.grammar.Sentences.{Tree, leaf, nothing, pair, first, second, Derives, at_end, by_one, by_both, by_first, by_second, left_out, put_in, no_more, one_more, by_rule, IsWrongAt}
 use Rattle.tb_token.specs.grammar.Reading.{is_filled, own_starts}
 use Rattle.tb_token.specs.grammar.Decided.{are_apart, all_starts, AreDecided, AreGood}
 use Rattle.tb_token.proofs.grammar.LetterLaws.{none-true, apart-none}
-use Rattle.tb_token.proofs.grammar.WordLaws.{both-decided, first-decided, second-decided, maybe-decided, many-decided, rule-decided, either-filled, maybe-filled, many-filled, word-starts, own-starts, filled-takes}
+use Rattle.tb_token.proofs.grammar.SentenceLaws.{both-decided, first-decided, second-decided, maybe-decided, many-decided, rule-decided, either-filled, maybe-filled, many-filled, sentence-starts, own-starts, filled-takes}
 
 pair-same : (v w v' w' : Tree) (vs ws : List Tree) → (v ∷ w ∷ vs) ≡ (v' ∷ w' ∷ ws) → (pair v w ∷ vs) ≡ (pair v' w' ∷ ws)
 pair-same v w v' w' vs ws e = cc
@@ -36,7 +36,7 @@ module _ (rules : Rules) (follow : ℕ → List ℕ) (good : AreGood rules follo
   apart-by [] d e filled apart one_is two_is = filled-takes filled one_is
   apart-by {p = p} {ps = ps} (t ∷ s) d e filled apart one_is two_is =
       let here = own-starts rules follow good d filled one_is in
-      let there = word-starts rules follow good e two_is in
+      let there = sentence-starts rules follow good e two_is in
       none-true (has (all_starts ps) t.letter) (apart-none (own_starts p) (all_starts ps) t.letter apart here) there
 
   maybe-apart : {p : Part} {ps : List Part} {vs ws : List Tree} (s : List Tok) → AreDecided follow (maybe p ∷ ps) → Derives rules (p ∷ ps) vs s → Derives rules ps ws s → ⊥

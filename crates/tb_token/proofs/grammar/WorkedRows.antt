@@ -27,8 +27,8 @@ abbrev toks : List ℕ → List Tok
 toks letters = map (λ x. record { letter = x; bytes = []; number = 0 }) letters
 
 -- `( a , ( a ) )`
-pub read-word : read rules (toks (1 ∷ 4 ∷ 3 ∷ 1 ∷ 4 ∷ 2 ∷ 2 ∷ [])) (Some (nested ∷ [])) ≡ None
-read-word = refl
+pub read-sentence : read rules (toks (1 ∷ 4 ∷ 3 ∷ 1 ∷ 4 ∷ 2 ∷ 2 ∷ [])) (Some (nested ∷ [])) ≡ None
+read-sentence = refl
 
 -- `( a , )` is wrong at its fourth token, and one is left
 pub read-wrong : read rules (toks (1 ∷ 4 ∷ 3 ∷ 2 ∷ [])) (Some (nested ∷ [])) ≡ Some 1

@@ -3,7 +3,7 @@ use Rattle.std.proofs.Common.{◌≡◌, ℕ, ◌+◌, Bool, ◌||◌, ◌&&◌,
 use Rattle.std.specs.Prelude.{codes, nat_le, nat_lt}
 use Rattle.std.specs.List.{list_all}
 use Rattle.tb_token.specs.grammar.Grammar.{Part, one, both, either, maybe, many, opened}
-use Rattle.tb_token.specs.grammar.Words.{IsWrongAt}
+use Rattle.tb_token.specs.grammar.Sentences.{IsWrongAt}
 use Rattle.tb_token.proofs.grammar.ReadLaws.{read-wrong}
 use Rattle.tb_token.specs.tokens.Kinds.{signs}
 use Rattle.tb_token.specs.tokens.Names.{keywords}

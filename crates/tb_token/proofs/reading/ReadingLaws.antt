@@ -3,7 +3,7 @@ use Rattle.std.proofs.Common.{◌≡◌, ℕ, ◌+◌, ◌-◌, ◌<◌, ◌≤�
 use Rattle.std.proofs.lemmas.List.{drop_more, drop_all}
 use Rattle.tb_token.specs.grammar.Grammar.{Tok, Part, Rules}
 use Rattle.tb_token.specs.grammar.Reading.{read, after, may_end}
-use Rattle.tb_token.proofs.grammar.ReadLaws.{read-word, read-wrong}
+use Rattle.tb_token.proofs.grammar.ReadLaws.{read-sentence, read-wrong}
 use mathlib.Core.Path.{fun_ext}
 use Rattle.tb_token.specs.reading.Calls.{IsFirstWrong, IsRead}
 use Rattle.tb_token.specs.reading.View.{part_of, rules_of}
@@ -39,8 +39,8 @@ module _ (rules : Rules) (p : Part) (s : List Tok) where
     read-end : read rules [] (Some ps) ≡ read rules s (Some (p ∷ []))
     read-end = rw (drop_all at s past) at going
 
-    pub word-end : may_end ps ≡ true → IsFirstWrong rules p s None
-    word-end e follow good decided = read-word rules follow good s (p ∷ []) (sym read-end ∙ ap (λ b. cond b None (Some 0)) e)
+    pub sentence-end : may_end ps ≡ true → IsFirstWrong rules p s None
+    sentence-end e follow good decided = read-sentence rules follow good s (p ∷ []) (sym read-end ∙ ap (λ b. cond b None (Some 0)) e)
 
     pub wrong-end : may_end ps ≡ false → IsFirstWrong rules p s (Some (length s + 1))
     wrong-end e = wrong-at 0 (length s + 1) (sym read-end ∙ ap (λ b. cond b None (Some 0)) e) (omega arith) (omega arith)

@@ -43,7 +43,7 @@ AreDecided follow [] = ⊤
 AreDecided follow (p ∷ ps) =
     IsTrue (is_decided follow (all_starts ps) p) × AreDecided follow ps
 
--- the part has a word in which no rule is called
+-- the part has a sentence in which no rule is called
 abbrev pub is_easy : Part → Bool
 is_easy (one c) = true
 is_easy (both p q) = is_easy p && is_easy q
@@ -52,7 +52,7 @@ is_easy (maybe p) = true
 is_easy (many p) = true
 is_easy (opened c n) = false
 
--- each rule is decided where it is called, and has a word in which no rule is called
+-- each rule is decided where it is called, and has a sentence in which no rule is called
 pub record AreGood (rules : Rules) (follow : ℕ → List ℕ) : Type 0 where
   pub decided : (n : ℕ) → IsTrue (is_decided follow (follow n) (rules n))
   pub easy : (n : ℕ) → IsTrue (is_easy (rules n))

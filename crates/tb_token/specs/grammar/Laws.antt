@@ -1,7 +1,7 @@
 -- What holds of each grammar that one token of look-ahead decides.
 use Rattle.std.specs.Prelude.{◌≡◌, ℕ, ◌+◌, ◌-◌, ◌<◌, List, [], ◌∷◌, length, Some, None}
 use Rattle.tb_token.specs.grammar.Grammar.{Tok, Part, Rules}
-use Rattle.tb_token.specs.grammar.Words.{Tree, Derives, AreWord, IsWrongAt}
+use Rattle.tb_token.specs.grammar.Sentences.{Tree, Derives, AreSentence, IsWrongAt}
 use Rattle.tb_token.specs.grammar.Reading.{read}
 use Rattle.tb_token.specs.grammar.Places.{Stands, Stops}
 use Rattle.tb_token.specs.grammar.Decided.{AreDecided, AreGood}
@@ -13,12 +13,12 @@ HaveOneTree =
     → AreGood rules follow → AreDecided follow ps
     → Derives rules ps vs s → Derives rules ps ws s → vs ≡ ws
 
--- the reading comes to the end of a word alone, and else stops at the token where the list is wrong
+-- the reading comes to the end of a sentence alone, and else stops at the token where the list is wrong
 abbrev pub ReadingIsRight : Type 0
 ReadingIsRight =
     (rules : Rules) (follow : ℕ → List ℕ) (ps : List Part) (s : List Tok)
     → AreGood rules follow → AreDecided follow ps
-    → (read rules s (Some ps) ≡ None → AreWord rules ps s)
+    → (read rules s (Some ps) ≡ None → AreSentence rules ps s)
     × ((left : ℕ) → read rules s (Some ps) ≡ Some left → IsWrongAt rules ps s (length s - left + 1))
 
 -- whatever the grammar is, a list is wrong at one place
@@ -28,7 +28,7 @@ IsWrongOnce =
     → IsWrongAt rules ps s k → IsWrongAt rules ps s j → k ≡ j
 
 -- where a reader of a list stops, or has read the part and tokens are left, the list is wrong
--- there; where it has read all tokens, they are a word with its tree
+-- there; where it has read all tokens, they are a sentence with its tree
 pub record PlacesAreRight (rules : Rules) (p : Part) (s : List Tok) : Type 0 where
   pub stopped : (bad : ℕ) → Stops rules s p 0 bad → IsWrongAt rules (p ∷ []) s (bad + 1)
   pub left : (next : ℕ) (v : Tree) → Stands rules s p 0 next v → next < length s

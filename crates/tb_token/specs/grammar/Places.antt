@@ -2,7 +2,7 @@
 -- parts that may stand behind, so readers of parts are joined without a word on what follows them.
 use Rattle.std.specs.Prelude.{◌≡◌, ℕ, ◌+◌, ◌-◌, ◌≤◌, List, [], ◌∷◌, length, drop, Some}
 use Rattle.tb_token.specs.grammar.Grammar.{Tok, Part, many, Rules}
-use Rattle.tb_token.specs.grammar.Words.{Tree, pair, Derives}
+use Rattle.tb_token.specs.grammar.Sentences.{Tree, pair, Derives}
 use Rattle.tb_token.specs.grammar.Reading.{read}
 
 -- the part stands from one place up to the next, and this is its tree

@@ -1,7 +1,7 @@
 -- What holds of the grammar of queries.
 use Rattle.std.specs.Prelude.{◌≡◌, ◌↔◌, List, [], ◌∷◌}
 use Rattle.tb_token.specs.grammar.Grammar.{Tok, Part}
-use Rattle.tb_token.specs.grammar.Words.{Tree, Derives, AreWord}
+use Rattle.tb_token.specs.grammar.Sentences.{Tree, Derives, AreSentence}
 use Rattle.tb_token.specs.grammar.Decided.{AreDecided, AreGood}
 use Rattle.tb_token.specs.grammar.Patterns.{match_query}
 use Rattle.tb_token.specs.grammar.Paths.{path, written_path}
@@ -23,4 +23,4 @@ AreOneQuery =
 abbrev pub IsWrittenPath : Type 0
 IsWrittenPath =
     (ps : List Part) (s : List Tok)
-    → AreWord rules (path ∷ ps) s ↔ AreWord rules (written_path ∷ ps) s
+    → AreSentence rules (path ∷ ps) s ↔ AreSentence rules (written_path ∷ ps) s

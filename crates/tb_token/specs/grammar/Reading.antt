@@ -2,7 +2,7 @@
 use Rattle.std.specs.Prelude.{ℕ, ◌+◌, Bool, true, false, ◌&&◌, ◌||◌, if◌then◌else◌, List, [], ◌∷◌, ◌++◌, length, Option, Some, None}
 use Rattle.tb_token.specs.grammar.Grammar.{Tok, Part, one, both, either, maybe, many, opened, Rules, has}
 
--- the part has a token in it, whatever word of it is taken
+-- the part has a token in it, whatever sentence of it is taken
 abbrev pub is_filled : Part → Bool
 is_filled (one c) = true
 is_filled (both p q) = is_filled p || is_filled q

@@ -2,14 +2,14 @@
 use Rattle.std.specs.Prelude.{◌≡◌, ℕ, List, [], ◌∷◌, Option, Some, None}
 use Rattle.tb_token.specs.grammar.Grammar as grammar
 use Rattle.tb_token.specs.grammar.Grammar.{Tok, Rules}
-use Rattle.tb_token.specs.grammar.Words.{AreWord, IsWrongAt}
+use Rattle.tb_token.specs.grammar.Sentences.{AreSentence, IsWrongAt}
 use Rattle.tb_token.specs.grammar.Decided.{AreDecided, AreGood}
 use Rattle.tb_token.specs.reading.View.{part_of, rules_of}
 use Rattle.tb_token.specs.declared.reader.part.Grammar.{Grammar}
 
--- the tokens are a word, or wrong at this number, from 1
+-- the tokens are a sentence, or wrong at this number, from 1
 abbrev pub FirstWrong : Rules → grammar.Part → List Tok → Option ℕ → Type 0
-FirstWrong rules p s None = AreWord rules (p ∷ []) s
+FirstWrong rules p s None = AreSentence rules (p ∷ []) s
 FirstWrong rules p s (Some k) = IsWrongAt rules (p ∷ []) s k
 
 -- so it is wherever the next letter decides

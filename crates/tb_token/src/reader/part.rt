@@ -24,7 +24,7 @@ pub enum Part<'g> {
     Opened(&'g [u8], usize),
 }
 
-/// A part that words are read by, and what each rule says.
+/// A part that sentences are read by, and what each rule says.
 #[derive(Clone, Copy)]
 pub struct Grammar<'g> {
     pub start: &'g Part<'g>,
@@ -64,7 +64,7 @@ pub fn begins(part: &Part, letter: u8, behind: bool) -> bool
     }
 }
 
-/// Whether each word of the part has a token.
+/// Whether each sentence of the part has a token.
 pub fn is_filled(part: &Part) -> bool
     ensures { result ≡ is_filled (part_of part.now) }
 {

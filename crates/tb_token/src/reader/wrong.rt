@@ -1,4 +1,4 @@
-//! Where tokens stop being a word of a grammar.
+//! Where tokens stop being a sentence of a grammar.
 
 ghost use Rattle.std.specs.Prelude.{◌≤◌, IfOk, length};
 ghost use Rattle.tb_token.specs.reading.Calls.{IsRead};
@@ -8,8 +8,8 @@ use crate::reader::part::Grammar;
 use crate::reader::stack::{goes_on, may_end};
 use std::alloc::{AllocError, Global};
 
-/// The number, from 1, of the first token that begins no word of the grammar with those before it, or
-/// one more than there are. `None` for a word. Parts inside each other cost no calls.
+/// The number, from 1, of the first token that begins no sentence of the grammar with those before it, or
+/// one more than there are. `None` for a sentence. Parts inside each other cost no calls.
 pub fn first_wrong(
     alloc: Global,
     grammar: &Grammar,

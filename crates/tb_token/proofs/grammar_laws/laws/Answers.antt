@@ -1,4 +1,4 @@
-use Rattle.tb_token.proofs.grammar.ReadLaws.{read-word, read-wrong}
+use Rattle.tb_token.proofs.grammar.ReadLaws.{read-sentence, read-wrong}
 use Rattle.tb_token.proofs.grammar.TreeLaws.{one-tree, wrong-once}
 use Rattle.tb_token.proofs.grammar.PlaceLaws.{places-right}
 use Rattle.tb_token.proofs.grammar_laws.laws.Goals as goal
@@ -8,7 +8,7 @@ returns-clause-tree c = λ rules follow ps s vs ws good d one_is two_is. one-tre
 
 pub returns-clause-reading : goal.returns-clause-reading
 returns-clause-reading c = λ rules follow ps s good d.
-    (λ e. read-word rules follow good s ps e, λ left e. read-wrong rules follow good s ps left d e)
+    (λ e. read-sentence rules follow good s ps e, λ left e. read-wrong rules follow good s ps left d e)
 
 pub returns-clause-readers : goal.returns-clause-readers
 returns-clause-readers c = λ rules follow p s good d. places-right rules follow p s good d

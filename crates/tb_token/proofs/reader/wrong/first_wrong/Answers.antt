@@ -2,7 +2,7 @@
 use Rattle.std.proofs.Common.{◌+◌, length, Some, None, sym, ap, ◌∙◌, arith}
 use Rattle.tb_token.specs.reading.View.{part_of, rules_of}
 use Rattle.tb_token.specs.reading.Stack.{parts_in}
-use Rattle.tb_token.proofs.reading.ReadingLaws.{wrong-here, word-end, wrong-end, as-said}
+use Rattle.tb_token.proofs.reading.ReadingLaws.{wrong-here, sentence-end, wrong-end, as-said}
 use Rattle.tb_token.proofs.reader.wrong.first_wrong.Goals as goal
 
 pub returns-then-not-branch : goal.returns-then-not-branch
@@ -15,7 +15,7 @@ returns-then-not-branch c =
 pub returns-then-may_end : goal.returns-then-may_end
 returns-then-may_end c =
     as-said c.args.grammar.now c.args.tokens.now None
-    (word-end (rules_of c.args.grammar.now) (part_of c.args.grammar.now.start.now) c.args.tokens.now c.tokens.at (parts_in c.tokens.stack.items) c.tokens.invariant (omega arith)
+    (sentence-end (rules_of c.args.grammar.now) (part_of c.args.grammar.now.start.now) c.args.tokens.now c.tokens.at (parts_in c.tokens.stack.items) c.tokens.invariant (omega arith)
     (sym c.may_end.ensures ∙ c.if-may_end.true))
 
 pub returns : goal.returns

@@ -1,9 +1,9 @@
--- What a grammar says of a list of tokens: its words with their trees, their prefixes, and where a
--- list that is no word is wrong.
+-- What a grammar says of a list of tokens: its sentences with their trees, their prefixes, and where a
+-- list that is no sentence is wrong.
 use Rattle.std.specs.Prelude.{ℕ, ◌+◌, ◌<◌, ◌≤◌, IsTrue, List, [], ◌∷◌, ◌++◌, length, take}
 use Rattle.tb_token.specs.grammar.Grammar.{Tok, Part, one, both, either, maybe, many, opened, Rules, has}
 
--- what a word's tokens were read as
+-- what a sentence's tokens were read as
 pub data Tree : Type 0 where
   leaf : Tok → Tree
   nothing : Tree
@@ -45,12 +45,12 @@ pub data Derives (rules : Rules) : List Part → List Tree → List Tok → Type
       → Derives rules (opened c n ∷ ps) (pair (leaf t) v ∷ vs) (t ∷ s)
 
 -- the tokens are the parts
-abbrev pub AreWord : Rules → List Part → List Tok → Type 0
-AreWord rules ps s = (vs : List Tree) × Derives rules ps vs s
+abbrev pub AreSentence : Rules → List Part → List Tok → Type 0
+AreSentence rules ps s = (vs : List Tree) × Derives rules ps vs s
 
 -- the tokens, and perhaps more behind them, are the parts
 abbrev pub Begin : Rules → List Part → List Tok → Type 0
-Begin rules ps s = (more : List Tok) × AreWord rules ps (s ++ more)
+Begin rules ps s = (more : List Tok) × AreSentence rules ps (s ++ more)
 
 -- The tokens are not the parts, and k is the least number for which the first k tokens do not begin
 -- them; where all tokens begin them, k is one more than there are.
@@ -59,4 +59,4 @@ pub record IsWrongAt (rules : Rules) (ps : List Part) (s : List Tok) (k : ℕ) :
   pub within : k ≤ length s + 1
   pub before : (j : ℕ) → j < k → Begin rules ps (take j s)
   pub here : k ≤ length s → ¬ Begin rules ps (take k s)
-  pub none : ¬ AreWord rules ps s
+  pub none : ¬ AreSentence rules ps s
