@@ -3,7 +3,7 @@ use Rattle.std.proofs.Common.{◌≡◌, ℕ, Bool, true, false, ◌≤◌, List
 use Rattle.std.specs.Prelude.{codes}
 use Rattle.tb_token.specs.grammar.Grammar.{Tok, Part, both, either, maybe, many, has}
 use Rattle.tb_token.specs.grammar.Sentences.{Tree, leaf, nothing, pair, second, by_one, by_both, by_second}
-use Rattle.tb_token.specs.grammar.Reading.{own_starts}
+use Rattle.tb_token.specs.grammar.Reading.{first_set}
 use Rattle.tb_token.proofs.grammar.PlaceLaws.{read-both, read-second, read-one}
 use Rattle.tb_token.specs.grammar.Terminals.{keyword, list_of}
 use Rattle.tb_token.specs.grammar.Patterns.{cmp, literal}
@@ -28,7 +28,7 @@ abbrev Next : List Tok → Tree → Type 0
 Next s v = v ≡ next s
 
 abbrev operand_letters : List ℕ
-operand_letters = own_starts operand
+operand_letters = first_set operand
 
 module _ (names : Names) where
   pub right-operand : (is : Operand) (s left : List Tok) → begins operand_letters s ≡ true → Builds operand (IsOperand names is) s left

@@ -4,7 +4,7 @@ use Rattle.std.specs.Prelude.{codes}
 use Rattle.std.proofs.lemmas.Bool.{and_parts, or_parts}
 use Rattle.tb_token.specs.grammar.Grammar.{Tok, Part, one, both, either, maybe, many, has}
 use Rattle.tb_token.specs.grammar.Sentences.{Tree, leaf, pair, first, second, Derives}
-use Rattle.tb_token.specs.grammar.Decided.{are_apart}
+use Rattle.tb_token.specs.grammar.LL1.{are_apart}
 use Rattle.tb_token.proofs.grammar.LetterLaws.{none-true, has-left, has-right, apart-none}
 use Rattle.tb_token.specs.tokens.Letters.{letter_of}
 use Rattle.tb_token.specs.grammar.Terminals.{keyword, sign, name, string, comma}

@@ -3,7 +3,7 @@ use Rattle.std.proofs.Common.{◌≡◌, ℕ, true, false, ◌||◌, ◌==◌, L
 use Rattle.std.specs.Prelude.{codes}
 use Rattle.tb_token.specs.grammar.Grammar.{Tok, has}
 use Rattle.tb_token.specs.grammar.Sentences.{Derives, at_end, by_first, by_second}
-use Rattle.tb_token.specs.grammar.Reading.{own_starts, read}
+use Rattle.tb_token.specs.grammar.Reading.{first_set, read}
 use Rattle.tb_token.proofs.grammar.PlaceLaws.{read-first, read-second}
 use Rattle.tb_token.proofs.grammar.ReadLaws.{read-wrong}
 use Rattle.tb_token.specs.tokens.Letters.{HaveDigits}
@@ -40,7 +40,7 @@ swapped : (x y : ℕ) → (x == y) ≡ (y == x || false)
 swapped x y = grind arith
 
 -- the keyword MATCH is the first token of a `MATCH` query, and of no other
-match-starts : (t : Tok) (u : List Tok) → is_match (t ∷ u) ≡ has (own_starts match_query) t.letter
+match-starts : (t : Tok) (u : List Tok) → is_match (t ∷ u) ≡ has (first_set match_query) t.letter
 match-starts t u = swapped t.letter letters.MATCH
 
 pub match-asks : (s : List Tok) (p : Pattern) → is_match s ≡ true → pattern.Asks s p → Asks s (Match p)

@@ -3,7 +3,7 @@ use Rattle.std.proofs.Common.{◌≡◌, ℕ, Bool, true, false, ◌≤◌, ◌-
 use Rattle.tb_token.specs.grammar.Grammar.{Tok, Part, one, both, many}
 use Rattle.tb_token.specs.grammar.Terminals.{list_of}
 use Rattle.tb_token.specs.grammar.Sentences.{Tree, nothing, pair, Derives, by_both, no_more, one_more}
-use Rattle.tb_token.specs.grammar.Reading.{is_filled, own_starts, read}
+use Rattle.tb_token.specs.grammar.Reading.{is_never_empty, first_set, read}
 use Rattle.tb_token.proofs.grammar.PlaceLaws.{read-both, read-one_more, read-no_more}
 use Rattle.tb_token.specs.grammar.Queries.{rules}
 use Rattle.tb_pattern.specs.Building.{next, begins, Come, IsBuilt, Builds}
@@ -40,7 +40,7 @@ module _ (p : Part) {A B : Type 0} (put : B → A → A) (more : Tree → A) whe
     made = λ w. record { tree = w; value = refl; derived = λ vs d. d };
   }
 
-  pub run-next : (old found new : B) (s mid left : List Tok) → is_filled p ≡ true → begins (own_starts p) mid ≡ true → BuildsRun old found s mid
+  pub run-next : (old found new : B) (s mid left : List Tok) → is_never_empty p ≡ true → begins (first_set p) mid ≡ true → BuildsRun old found s mid
       → Builds p (Adds found new) mid left → BuildsRun old new s left
   run-next old found new s [] left filled e runs is ps minus come = false-true e
   run-next old found new s (t ∷ u) left filled e runs is ps minus come =
@@ -66,7 +66,7 @@ module _ (p : Part) {A B : Type 0} (put : B → A → A) (more : Tree → A) whe
         derived = λ vs d. r.derived vs (no_more d);
       }
 
-  pub run-end : (old found : B) (s left : List Tok) → begins (own_starts p) left ≡ false → BuildsRun old found s left → Builds (many p) (AddsAll old found) s left
+  pub run-end : (old found : B) (s left : List Tok) → begins (first_set p) left ≡ false → BuildsRun old found s left → Builds (many p) (AddsAll old found) s left
   run-end old found s [] e runs ps minus come = run-ends old found ps s [] (runs ps minus come) refl
   run-end old found s (t ∷ u) e runs ps minus come = run-ends old found ps s (t ∷ u) (runs ps minus come) (read-no_more rules p t u ps e)
 
@@ -78,7 +78,7 @@ module _ (p : Part) {A B : Type 0} (put : B → A → A) (more : Tree → A) whe
   pub far-start : (old : B) (s : List Tok) → SoFar old old s s
   far-start old s = record { built = run-start old s; shorter = omega arith }
 
-  pub far-next : (old found new : B) (s mid left : List Tok) → is_filled p ≡ true → begins (own_starts p) mid ≡ true → SoFar old found s mid
+  pub far-next : (old found new : B) (s mid left : List Tok) → is_never_empty p ≡ true → begins (first_set p) mid ≡ true → SoFar old found s mid
       → Builds p (Adds found new) mid left → length left ≤ length mid → SoFar old new s left
   far-next old found new s mid left filled e far is shorter = record {
     built = run-next old found new s mid left filled e far.built is;
@@ -108,14 +108,14 @@ module _ (p : Part) {A : Type 0} (more : Tree → List A) where
   pub list-start : (old : List A) (s : List Tok) → ListSoFar old old s s
   list-start old s = far-start p put more old s
 
-  pub list-next : (old found are : List A) (s mid left : List Tok) → is_filled p ≡ true → begins (own_starts p) mid ≡ true → ListSoFar old found s mid
+  pub list-next : (old found are : List A) (s mid left : List Tok) → is_never_empty p ≡ true → begins (first_set p) mid ≡ true → ListSoFar old found s mid
       → Builds p (Puts are) mid left → length left ≤ length mid → ListSoFar old (found ++ are) s left
   list-next old found are s mid left filled e far puts shorter =
       far-next p put more old found (found ++ are) s mid left filled e far
       (builds-as p (Puts are) (Adds p put more found (found ++ are)) mid left (λ v g w. ap (λ x. found ++ x) (g w) ∙ sym (append_assoc found are (more w))) puts)
       shorter
 
-  pub list-end : (old found : List A) (s left : List Tok) → more nothing ≡ [] → begins (own_starts p) left ≡ false → ListSoFar old found s left
+  pub list-end : (old found : List A) (s left : List Tok) → more nothing ≡ [] → begins (first_set p) left ≡ false → ListSoFar old found s left
       → Builds (many p) (λ v. old ++ more v ≡ found) s left
   list-end old found s left none e far =
       builds-as (many p) (AddsAll p put more old found) (λ v. old ++ more v ≡ found) s left (λ v f. f ∙ ap (λ x. found ++ x) none ∙ append-nil found)
@@ -126,7 +126,7 @@ module _ (item : Part) {A : Type 0} (from : Tree → List A → List A) (more : 
   abbrev pub IsItem : A → Tree → Type 0
   IsItem is v = (behind : List A) → from v behind ≡ is ∷ behind
 
-  pub item-next : (old found : List A) (is : A) (s mid left : List Tok) → ((v w : Tree) → more (pair v w) ≡ from v (more w)) → is_filled item ≡ true → begins (own_starts item) mid ≡ true
+  pub item-next : (old found : List A) (is : A) (s mid left : List Tok) → ((v w : Tree) → more (pair v w) ≡ from v (more w)) → is_never_empty item ≡ true → begins (first_set item) mid ≡ true
       → ListSoFar item more old found s mid → Builds item (IsItem is) mid left → length left ≤ length mid - 1 → ListSoFar item more old (found ++ is ∷ []) s left
   item-next old found is s mid left pairs filled e far gives shorter =
       list-next item more old found (is ∷ []) s mid left filled e far
@@ -155,7 +155,7 @@ module _ (item : Part) {A : Type 0} (from : Tree → List A → List A) (more : 
 as-many : {p : Part} {ps : List Part} {x : Tree} {vs : List Tree} {s : List Tok} → Derives rules (both p (many p) ∷ ps) (x ∷ vs) s → Derives rules (many p ∷ ps) (x ∷ vs) s
 as-many (by_both d) = one_more d
 
-pub many-built : (p : Part) (P Q : Tree → Type 0) (s left : List Tok) → is_filled p ≡ true → begins (own_starts p) s ≡ true → ((v : Tree) → P v → Q v)
+pub many-built : (p : Part) (P Q : Tree → Type 0) (s left : List Tok) → is_never_empty p ≡ true → begins (first_set p) s ≡ true → ((v : Tree) → P v → Q v)
     → Builds (both p (many p)) P s left → Builds (many p) Q s left
 many-built p P Q [] left filled e says is ps minus come = false-true e
 many-built p P Q (t ∷ u) left filled e says is ps minus come =
@@ -170,7 +170,7 @@ many-built p P Q (t ∷ u) left filled e says is ps minus come =
     }
 
 -- it is not there
-pub many-none : (p : Part) (s : List Tok) → begins (own_starts p) s ≡ false → Builds (many p) (λ v. v ≡ nothing) s s
+pub many-none : (p : Part) (s : List Tok) → begins (first_set p) s ≡ false → Builds (many p) (λ v. v ≡ nothing) s s
 many-none p [] e ps minus come = record {
   minus = minus;
   behind = come-as minus (many p ∷ ps) ps [] refl come;

@@ -3,7 +3,7 @@ use Rattle.std.proofs.Common.{◌≡◌, ℕ, Bool, true, false, cond, List, [],
 use Rattle.std.specs.Prelude.{codes}
 use Rattle.tb_token.specs.grammar.Grammar.{Tok, Part, one, both, either, maybe, opened, has}
 use Rattle.tb_token.specs.grammar.Sentences.{Tree, leaf, nothing, pair, first, second, by_one, by_both, by_first, by_second, left_out, put_in, by_rule}
-use Rattle.tb_token.specs.grammar.Reading.{is_filled, own_starts, after, read}
+use Rattle.tb_token.specs.grammar.Reading.{is_never_empty, first_set, after, read}
 use Rattle.tb_token.proofs.grammar.PlaceLaws.{read-both, read-first, read-second, read-put_in, read-left_out, read-one, read-rule}
 use Rattle.tb_token.proofs.grammar.LetterLaws.{none-true}
 use Rattle.tb_token.specs.grammar.Queries.{rules}
@@ -102,7 +102,7 @@ pub record Second (Q : Tree → Type 0) (v : Tree) : Type 0 where
   pub second_is : v ≡ second two
   pub two_is : Q two
 
-pub first-builds : (p q : Part) (P : Tree → Type 0) (s left : List Tok) → begins (own_starts p) s ≡ true → Builds p P s left → Builds (either p q) (First P) s left
+pub first-builds : (p q : Part) (P : Tree → Type 0) (s left : List Tok) → begins (first_set p) s ≡ true → Builds p P s left → Builds (either p q) (First P) s left
 first-builds p q P [] left e is ps minus come = false-true e
 first-builds p q P (t ∷ u) left e is ps minus come =
     let b = is ps minus (come-as minus (either p q ∷ ps) (p ∷ ps) (t ∷ u) (read-first rules p q t u ps e) come) in
@@ -114,7 +114,7 @@ first-builds p q P (t ∷ u) left e is ps minus come =
       derived = λ vs d. by_first (b.derived vs d);
     }
 
-pub second-builds : (p q : Part) (Q : Tree → Type 0) (s left : List Tok) → is_filled (either p q) ≡ true → begins (own_starts p) s ≡ false → Builds q Q s left
+pub second-builds : (p q : Part) (Q : Tree → Type 0) (s left : List Tok) → is_never_empty (either p q) ≡ true → begins (first_set p) s ≡ false → Builds q Q s left
     → Builds (either p q) (Second Q) s left
 second-builds p q Q [] left filled e is ps minus come =
     let ends : read rules [] (Some (either p q ∷ ps)) ≡ Some 0 = rw filled refl in
@@ -129,13 +129,13 @@ second-builds p q Q (t ∷ u) left filled e is ps minus come =
       derived = λ vs d. by_second (b.derived vs d);
     }
 
-pub put_in-builds : (p : Part) (P : Tree → Type 0) (s left : List Tok) → begins (own_starts p) s ≡ true → Builds p P s left → Builds (maybe p) P s left
+pub put_in-builds : (p : Part) (P : Tree → Type 0) (s left : List Tok) → begins (first_set p) s ≡ true → Builds p P s left → Builds (maybe p) P s left
 put_in-builds p P [] left e is ps minus come = false-true e
 put_in-builds p P (t ∷ u) left e is ps minus come =
     let b = is ps minus (come-as minus (maybe p ∷ ps) (p ∷ ps) (t ∷ u) (read-put_in rules p t u ps e) come) in
     record { minus = b.minus; behind = b.behind; tree = b.tree; is = b.is; derived = λ vs d. put_in (b.derived vs d) }
 
-pub left_out-builds : (p : Part) (s : List Tok) → begins (own_starts p) s ≡ false → Builds (maybe p) (λ v. v ≡ nothing) s s
+pub left_out-builds : (p : Part) (s : List Tok) → begins (first_set p) s ≡ false → Builds (maybe p) (λ v. v ≡ nothing) s s
 left_out-builds p [] e ps minus come = record {
   minus = minus;
   behind = come-as minus (maybe p ∷ ps) ps [] refl come;

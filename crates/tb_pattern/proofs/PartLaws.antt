@@ -3,7 +3,7 @@ use Rattle.std.proofs.Common.{◌≡◌, ℕ, Bool, true, false, ◌&&◌, List,
 use Rattle.std.specs.Prelude.{⊤}
 use Rattle.tb_token.specs.grammar.Grammar.{Tok, Part, one, both, either, maybe, many, opened, has}
 use Rattle.tb_token.specs.grammar.Sentences.{Tree, leaf, nothing, pair, first, second, Derives, at_end, by_one, by_both, by_first, by_second, left_out, put_in, no_more, one_more, by_rule}
-use Rattle.tb_token.specs.grammar.Decided.{are_apart}
+use Rattle.tb_token.specs.grammar.LL1.{are_apart}
 use Rattle.tb_token.specs.grammar.Queries.{rules}
 
 -- a tree of the part

@@ -2,7 +2,7 @@
 use Rattle.std.proofs.Common.{◌≡◌, ℕ, zero, suc, Bool, true, false, ◌==◌, List, [], ◌∷◌, Option, Some, None, refl, nat_eq}
 use Rattle.std.specs.Prelude.{Result, Ok, Err, IfOk, IsTrue}
 use Rattle.tb_token.specs.grammar.Grammar.{Tok}
-use Rattle.tb_token.specs.grammar.Decided.{is_decided, is_easy, AreGood}
+use Rattle.tb_token.specs.grammar.LL1.{is_ll1, is_easy, AreGood}
 use Rattle.tb_token.proofs.grammar.LetterLaws.{none-true}
 use Rattle.tb_token.proofs.grammar.RuleLaws.{calls, Agree, sentence-by, wrong-by}
 use Rattle.tb_token.specs.grammar.Terminals.{name}
@@ -20,17 +20,17 @@ says-match g start first others = record { each_rule = each; start_is = start }
     each zero = first
     each (suc n) = others n
 
-match-decided : (n : ℕ) → is_decided follow (follow n) (match_rules n) ≡ true
-match-decided zero = refl
-match-decided (suc zero) = refl
-match-decided (suc (suc n)) = refl
+match-ll1 : (n : ℕ) → is_ll1 follow (follow n) (match_rules n) ≡ true
+match-ll1 zero = refl
+match-ll1 (suc zero) = refl
+match-ll1 (suc (suc n)) = refl
 
 match-easy : (n : ℕ) → is_easy (match_rules n) ≡ true
 match-easy zero = refl
 match-easy (suc n) = refl
 
 match-good : AreGood match_rules follow
-match-good = record { decided = match-decided; easy = match-easy }
+match-good = record { ll1 = match-ll1; easy = match-easy }
 
 abbrev is_first : ℕ → Bool
 is_first zero = true

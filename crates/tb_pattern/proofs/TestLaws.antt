@@ -4,7 +4,7 @@ use Rattle.std.specs.Prelude.{codes}
 use Rattle.std.proofs.lemmas.Bool.{and_parts}
 use Rattle.tb_token.specs.grammar.Grammar.{Tok, Part, both, maybe, many, has}
 use Rattle.tb_token.specs.grammar.Sentences.{Tree, leaf, nothing, pair, first, second, Derives, at_end, by_one, by_both, by_first, by_second, left_out, put_in, no_more, one_more, by_rule}
-use Rattle.tb_token.specs.grammar.Decided.{are_apart}
+use Rattle.tb_token.specs.grammar.LL1.{are_apart}
 use Rattle.tb_token.proofs.grammar.LetterLaws.{none-true, apart-none}
 use Rattle.tb_token.specs.grammar.Terminals.{comma}
 use Rattle.tb_token.specs.grammar.Patterns.{axis, edges, edge, match_query}

@@ -1,5 +1,5 @@
 pub mod LetterLaws
-pub mod StartLaws
+pub mod FirstLaws
 pub mod SentenceLaws
 pub mod ReadLaws
 pub mod RuleLaws

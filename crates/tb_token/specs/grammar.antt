@@ -3,7 +3,7 @@
 pub mod Grammar
 pub mod Sentences
 pub mod Reading
-pub mod Decided
+pub mod LL1
 pub mod Places
 pub mod Laws
 pub mod Terminals

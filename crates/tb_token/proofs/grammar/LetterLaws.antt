@@ -3,7 +3,7 @@ use Rattle.std.proofs.Common.{◌≡◌, ◌⊎◌, inl, inr, ℕ, Bool, true, f
 use Rattle.std.proofs.lemmas.Bool.{and_parts, and_from, or_left, or_right, or_parts, and_cases, not_from_false, or_cases, not-true}
 use Rattle.std.proofs.lemmas.Bool.Decides.{Decides-eqb}
 use Rattle.tb_token.specs.grammar.Grammar.{has}
-use Rattle.tb_token.specs.grammar.Decided.{all_in, are_apart}
+use Rattle.tb_token.specs.grammar.LL1.{all_in, are_apart}
 
 pub none-true : {P : Type 0} (x : Bool) → x ≡ false → x ≡ true → P
 none-true x e is = absurd (let d : ◌≡◌ {A = Bool} false true = sym e ∙ is in cc)

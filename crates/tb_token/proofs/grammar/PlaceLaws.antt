@@ -4,12 +4,12 @@ use Rattle.std.proofs.lemmas.Bool.{or_parts}
 use Rattle.std.proofs.lemmas.List.{drop_all}
 use Rattle.tb_token.specs.grammar.Grammar.{Tok, Part, one, both, either, maybe, many, opened, Rules, has}
 use Rattle.tb_token.specs.grammar.Sentences.{Tree, leaf, nothing, pair, first, second, by_one, by_both, by_first, by_second, left_out, put_in, no_more, one_more, by_rule, at_end, IsWrongAt}
-use Rattle.tb_token.specs.grammar.Reading.{is_filled, may_end, starts, own_starts, takes, after, read}
-use Rattle.tb_token.specs.grammar.Decided.{AreDecided, AreGood}
+use Rattle.tb_token.specs.grammar.Reading.{is_never_empty, may_end, first_set_before, first_set, takes, after, read}
+use Rattle.tb_token.specs.grammar.LL1.{AreLL1, AreGood}
 use Rattle.tb_token.specs.grammar.Laws.{PlacesAreRight}
 use Rattle.tb_token.specs.grammar.Places.{Stands, Stops, IsAt, chain, Repeats}
 use Rattle.tb_token.proofs.grammar.LetterLaws.{none-true, has-left, has-right}
-use Rattle.tb_token.proofs.grammar.ReadLaws.{takes-filled, read-wrong}
+use Rattle.tb_token.proofs.grammar.ReadLaws.{takes-never_empty, read-wrong}
 
 -- A letter that no sentence of the part begins with, or none of what may follow where it may be empty.
 
@@ -27,90 +27,90 @@ not-right xs ys x none = by (has ys x) refl
     by true e = none-true (has (xs ++ ys) x) none (has-right xs ys x e)
     by false e = refl
 
--- what may follow a part that may be empty is among its starts
-starts-behind : (p : Part) (xs : List ℕ) (x : ℕ) → is_filled p ≡ false → has (starts p xs) x ≡ false → has xs x ≡ false
-starts-behind (one c) xs x empty none = none-true true empty refl
-starts-behind (both p q) xs x empty none =
-    let parts = or_parts (is_filled p) (is_filled q) empty in
-    starts-behind q xs x parts.1 (starts-behind p (starts q xs) x parts.0 none)
-starts-behind (either p q) xs x empty none = by (is_filled p) refl empty (λ e. starts-behind p xs x e (not-left (starts p xs) (starts q xs) x none)) (λ e. starts-behind q xs x e (not-right (starts p xs) (starts q xs) x none))
+-- what may follow a part that may be empty is in its FIRST
+first_set_before-behind : (p : Part) (xs : List ℕ) (x : ℕ) → is_never_empty p ≡ false → has (first_set_before p xs) x ≡ false → has xs x ≡ false
+first_set_before-behind (one c) xs x empty none = none-true true empty refl
+first_set_before-behind (both p q) xs x empty none =
+    let parts = or_parts (is_never_empty p) (is_never_empty q) empty in
+    first_set_before-behind q xs x parts.1 (first_set_before-behind p (first_set_before q xs) x parts.0 none)
+first_set_before-behind (either p q) xs x empty none = by (is_never_empty p) refl empty (λ e. first_set_before-behind p xs x e (not-left (first_set_before p xs) (first_set_before q xs) x none)) (λ e. first_set_before-behind q xs x e (not-right (first_set_before p xs) (first_set_before q xs) x none))
   where
-    by : (filled : Bool) → is_filled p ≡ filled → (filled && is_filled q) ≡ false → (is_filled p ≡ false → has xs x ≡ false) → (is_filled q ≡ false → has xs x ≡ false) → has xs x ≡ false
+    by : (never_empty : Bool) → is_never_empty p ≡ never_empty → (never_empty && is_never_empty q) ≡ false → (is_never_empty p ≡ false → has xs x ≡ false) → (is_never_empty q ≡ false → has xs x ≡ false) → has xs x ≡ false
     by true e f one_is two_is = two_is f
     by false e f one_is two_is = one_is e
-starts-behind (maybe p) xs x empty none = not-right (starts p xs) xs x none
-starts-behind (many p) xs x empty none = not-right (starts p xs) xs x none
-starts-behind (opened c n) xs x empty none = none-true true empty refl
+first_set_before-behind (maybe p) xs x empty none = not-right (first_set_before p xs) xs x none
+first_set_before-behind (many p) xs x empty none = not-right (first_set_before p xs) xs x none
+first_set_before-behind (opened c n) xs x empty none = none-true true empty refl
 
 cond-same : {A : Type 0} (b : Bool) (x : A) → cond b x x ≡ x
 cond-same true x = refl
 cond-same false x = refl
 
 module _ (rules : Rules) where
-  takes-none : (p : Part) (xs : List ℕ) (x : ℕ) (ps : List Part) → has (starts p xs) x ≡ false → takes rules p x ps None ≡ None
+  takes-none : (p : Part) (xs : List ℕ) (x : ℕ) (ps : List Part) → has (first_set_before p xs) x ≡ false → takes rules p x ps None ≡ None
   takes-none (one c) xs x ps none = rw none refl
   takes-none (both p q) xs x ps none =
-      by (is_filled p) refl (takes-none p (starts q xs) x (q ∷ ps) none) (λ e. takes-none q xs x ps (starts-behind p (starts q xs) x e none))
+      by (is_never_empty p) refl (takes-none p (first_set_before q xs) x (q ∷ ps) none) (λ e. takes-none q xs x ps (first_set_before-behind p (first_set_before q xs) x e none))
     where
-      by : (filled : Bool) → is_filled p ≡ filled → takes rules p x (q ∷ ps) None ≡ None → (is_filled p ≡ false → takes rules q x ps None ≡ None) → takes rules p x (q ∷ ps) (takes rules q x ps None) ≡ None
-      by true e here behind = takes-filled rules p x (q ∷ ps) (takes rules q x ps None) None e ∙ here
+      by : (never_empty : Bool) → is_never_empty p ≡ never_empty → takes rules p x (q ∷ ps) None ≡ None → (is_never_empty p ≡ false → takes rules q x ps None ≡ None) → takes rules p x (q ∷ ps) (takes rules q x ps None) ≡ None
+      by true e here behind = takes-never_empty rules p x (q ∷ ps) (takes rules q x ps None) None e ∙ here
       by false e here behind = ap (λ o. takes rules p x (q ∷ ps) o) (behind e) ∙ here
   takes-none (either p q) xs x ps none =
-      let one_is = takes-none p xs x ps (not-left (starts p xs) (starts q xs) x none) in
-      let two_is = takes-none q xs x ps (not-right (starts p xs) (starts q xs) x none) in
-      rw (one_is, two_is) (cond-same (has (own_starts p) x) None)
+      let one_is = takes-none p xs x ps (not-left (first_set_before p xs) (first_set_before q xs) x none) in
+      let two_is = takes-none q xs x ps (not-right (first_set_before p xs) (first_set_before q xs) x none) in
+      rw (one_is, two_is) (cond-same (has (first_set p) x) None)
   takes-none (maybe p) xs x ps none =
-      let here = takes-none p xs x ps (not-left (starts p xs) xs x none) in
-      rw here (cond-same (has (own_starts p) x) None)
+      let here = takes-none p xs x ps (not-left (first_set_before p xs) xs x none) in
+      rw here (cond-same (has (first_set p) x) None)
   takes-none (many p) xs x ps none =
-      let here = takes-none p xs x (many p ∷ ps) (not-left (starts p xs) xs x none) in
-      rw here (cond-same (has (own_starts p) x) None)
+      let here = takes-none p xs x (many p ∷ ps) (not-left (first_set_before p xs) xs x none) in
+      rw here (cond-same (has (first_set p) x) None)
   takes-none (opened c n) xs x ps none = rw none refl
 
   -- How the reading of a part is that of its parts.
 
-  pub read-end : (p : Part) (ps : List Part) → is_filled p ≡ true → read rules [] (Some (p ∷ ps)) ≡ Some 0
-  read-end p ps filled = rw filled refl
+  pub read-end : (p : Part) (ps : List Part) → is_never_empty p ≡ true → read rules [] (Some (p ∷ ps)) ≡ Some 0
+  read-end p ps never_empty = rw never_empty refl
 
-  pub read-stop : (p : Part) (t : Tok) (u : List Tok) (ps : List Part) → is_filled p ≡ true → has (own_starts p) t.letter ≡ false → read rules (t ∷ u) (Some (p ∷ ps)) ≡ Some (1 + length u)
-  read-stop p t u ps filled none =
-      ap (λ o. read rules u o) (takes-filled rules p t.letter ps (after rules ps t.letter) None filled ∙ takes-none p [] t.letter ps none)
+  pub read-stop : (p : Part) (t : Tok) (u : List Tok) (ps : List Part) → is_never_empty p ≡ true → has (first_set p) t.letter ≡ false → read rules (t ∷ u) (Some (p ∷ ps)) ≡ Some (1 + length u)
+  read-stop p t u ps never_empty none =
+      ap (λ o. read rules u o) (takes-never_empty rules p t.letter ps (after rules ps t.letter) None never_empty ∙ takes-none p [] t.letter ps none)
 
   pub read-both : (p q : Part) (u : List Tok) (ps : List Part) → read rules u (Some (both p q ∷ ps)) ≡ read rules u (Some (p ∷ q ∷ ps))
-  read-both p q [] ps = by (is_filled p) (is_filled q) (may_end ps)
+  read-both p q [] ps = by (is_never_empty p) (is_never_empty q) (may_end ps)
     where
       by : (a b e : Bool) → ◌≡◌ {A = Option ℕ} (cond (cond (a || b) false true && e) None (Some 0)) (cond (cond a false true && (cond b false true && e)) None (Some 0))
       by true b e = refl
       by false b e = refl
   read-both p q (t ∷ u) ps = refl
 
-  pub read-first : (p q : Part) (t : Tok) (u : List Tok) (ps : List Part) → has (own_starts p) t.letter ≡ true → read rules (t ∷ u) (Some (either p q ∷ ps)) ≡ read rules (t ∷ u) (Some (p ∷ ps))
+  pub read-first : (p q : Part) (t : Tok) (u : List Tok) (ps : List Part) → has (first_set p) t.letter ≡ true → read rules (t ∷ u) (Some (either p q ∷ ps)) ≡ read rules (t ∷ u) (Some (p ∷ ps))
   read-first p q t u ps here =
       let e : after rules (either p q ∷ ps) t.letter ≡ after rules (p ∷ ps) t.letter = rw here refl in
       ap (λ o. read rules u o) e
 
-  pub read-second : (p q : Part) (t : Tok) (u : List Tok) (ps : List Part) → has (own_starts p) t.letter ≡ false → read rules (t ∷ u) (Some (either p q ∷ ps)) ≡ read rules (t ∷ u) (Some (q ∷ ps))
+  pub read-second : (p q : Part) (t : Tok) (u : List Tok) (ps : List Part) → has (first_set p) t.letter ≡ false → read rules (t ∷ u) (Some (either p q ∷ ps)) ≡ read rules (t ∷ u) (Some (q ∷ ps))
   read-second p q t u ps other =
       let e : after rules (either p q ∷ ps) t.letter ≡ after rules (q ∷ ps) t.letter = rw other refl in
       ap (λ o. read rules u o) e
 
-  pub read-put_in : (p : Part) (t : Tok) (u : List Tok) (ps : List Part) → has (own_starts p) t.letter ≡ true → read rules (t ∷ u) (Some (maybe p ∷ ps)) ≡ read rules (t ∷ u) (Some (p ∷ ps))
+  pub read-put_in : (p : Part) (t : Tok) (u : List Tok) (ps : List Part) → has (first_set p) t.letter ≡ true → read rules (t ∷ u) (Some (maybe p ∷ ps)) ≡ read rules (t ∷ u) (Some (p ∷ ps))
   read-put_in p t u ps here =
       let e : after rules (maybe p ∷ ps) t.letter ≡ after rules (p ∷ ps) t.letter = rw here refl in
       ap (λ o. read rules u o) e
 
-  pub read-left_out : (p : Part) (t : Tok) (u : List Tok) (ps : List Part) → has (own_starts p) t.letter ≡ false → read rules (t ∷ u) (Some (maybe p ∷ ps)) ≡ read rules (t ∷ u) (Some ps)
+  pub read-left_out : (p : Part) (t : Tok) (u : List Tok) (ps : List Part) → has (first_set p) t.letter ≡ false → read rules (t ∷ u) (Some (maybe p ∷ ps)) ≡ read rules (t ∷ u) (Some ps)
   read-left_out p t u ps other =
       let e : after rules (maybe p ∷ ps) t.letter ≡ after rules ps t.letter = rw other refl in
       ap (λ o. read rules u o) e
 
-  pub read-one_more : (p : Part) (t : Tok) (u : List Tok) (ps : List Part) → is_filled p ≡ true → has (own_starts p) t.letter ≡ true → read rules (t ∷ u) (Some (many p ∷ ps)) ≡ read rules (t ∷ u) (Some (p ∷ many p ∷ ps))
-  read-one_more p t u ps filled here =
-      let same = takes-filled rules p t.letter (many p ∷ ps) None (after rules (many p ∷ ps) t.letter) filled in
+  pub read-one_more : (p : Part) (t : Tok) (u : List Tok) (ps : List Part) → is_never_empty p ≡ true → has (first_set p) t.letter ≡ true → read rules (t ∷ u) (Some (many p ∷ ps)) ≡ read rules (t ∷ u) (Some (p ∷ many p ∷ ps))
+  read-one_more p t u ps never_empty here =
+      let same = takes-never_empty rules p t.letter (many p ∷ ps) None (after rules (many p ∷ ps) t.letter) never_empty in
       let e : after rules (many p ∷ ps) t.letter ≡ takes rules p t.letter (many p ∷ ps) None = rw here refl in
       ap (λ o. read rules u o) (e ∙ same)
 
-  pub read-no_more : (p : Part) (t : Tok) (u : List Tok) (ps : List Part) → has (own_starts p) t.letter ≡ false → read rules (t ∷ u) (Some (many p ∷ ps)) ≡ read rules (t ∷ u) (Some ps)
+  pub read-no_more : (p : Part) (t : Tok) (u : List Tok) (ps : List Part) → has (first_set p) t.letter ≡ false → read rules (t ∷ u) (Some (many p ∷ ps)) ≡ read rules (t ∷ u) (Some ps)
   read-no_more p t u ps other =
       let e : after rules (many p ∷ ps) t.letter ≡ after rules ps t.letter = rw other refl in
       ap (λ o. read rules u o) e
@@ -152,26 +152,26 @@ module _ (rules : Rules) (s : List Tok) where
     made = λ ps vs w. rw here (by_one h w);
   }
 
-  -- a filled part stops at a token that it does not begin with
-  pub filled-stops : (p : Part) (at : ℕ) (t : Tok) → is_filled p ≡ true → IsAt s at t → has (own_starts p) t.letter ≡ false → Stops rules s p at at
-  filled-stops p at t filled here none =
+  -- a part that is not nullable stops at a token that it does not begin with
+  pub never_empty-stops : (p : Part) (at : ℕ) (t : Tok) → is_never_empty p ≡ true → IsAt s at t → has (first_set p) t.letter ≡ false → Stops rules s p at at
+  never_empty-stops p at t never_empty here none =
       let within = here-within at t here in
       let size : 1 + length (drop (at + 1) s) ≡ length s - at = omega (arith, length-drop (at + 1) s) in
       record {
         from = omega arith;
         to = omega arith;
-        off = λ ps. rw here (read-stop rules p t (drop (at + 1) s) ps filled none ∙ ap (λ n. Some n) size);
+        off = λ ps. rw here (read-stop rules p t (drop (at + 1) s) ps never_empty none ∙ ap (λ n. Some n) size);
       }
 
   -- and at the end
-  pub filled-ends : (p : Part) (at : ℕ) → is_filled p ≡ true → at ≤ length s → drop at s ≡ [] → Stops rules s p at at
-  filled-ends p at filled within ends =
+  pub never_empty-ends : (p : Part) (at : ℕ) → is_never_empty p ≡ true → at ≤ length s → drop at s ≡ [] → Stops rules s p at at
+  never_empty-ends p at never_empty within ends =
       let same = none-left at within ends in
       let size : 0 ≡ length s - at = omega arith in
       record {
         from = omega arith;
         to = within;
-        off = λ ps. rw ends (read-end rules p ps filled ∙ ap (λ n. Some n) size);
+        off = λ ps. rw ends (read-end rules p ps never_empty ∙ ap (λ n. Some n) size);
       }
 
   pub both-stands : (p q : Part) (at mid next : ℕ) (v w : Tree) → Stands rules s p at mid v → Stands rules s q mid next w → Stands rules s (both p q) at next (pair v w)
@@ -205,7 +205,7 @@ module _ (rules : Rules) (s : List Tok) where
   -- The next token chooses.
 
   module _ (p : Part) (at : ℕ) (t : Tok) (here : IsAt s at t) where
-    pub first-stands : (q : Part) (next : ℕ) (v : Tree) → has (own_starts p) t.letter ≡ true → Stands rules s p at next v → Stands rules s (either p q) at next (first v)
+    pub first-stands : (q : Part) (next : ℕ) (v : Tree) → has (first_set p) t.letter ≡ true → Stands rules s p at next v → Stands rules s (either p q) at next (first v)
     first-stands q next v h is = record {
       from = is.from;
       to = is.to;
@@ -213,14 +213,14 @@ module _ (rules : Rules) (s : List Tok) where
       made = λ ps vs d. by_first (is.made ps vs d);
     }
 
-    pub first-stops : (q : Part) (bad : ℕ) → has (own_starts p) t.letter ≡ true → Stops rules s p at bad → Stops rules s (either p q) at bad
+    pub first-stops : (q : Part) (bad : ℕ) → has (first_set p) t.letter ≡ true → Stops rules s p at bad → Stops rules s (either p q) at bad
     first-stops q bad h stops = record {
       from = stops.from;
       to = stops.to;
       off = λ ps. rw here (read-first rules p q t (drop (at + 1) s) ps h) ∙ stops.off ps;
     }
 
-    pub second-stands : (q : Part) (next : ℕ) (v : Tree) → has (own_starts p) t.letter ≡ false → Stands rules s q at next v → Stands rules s (either p q) at next (second v)
+    pub second-stands : (q : Part) (next : ℕ) (v : Tree) → has (first_set p) t.letter ≡ false → Stands rules s q at next v → Stands rules s (either p q) at next (second v)
     second-stands q next v h is = record {
       from = is.from;
       to = is.to;
@@ -228,14 +228,14 @@ module _ (rules : Rules) (s : List Tok) where
       made = λ ps vs d. by_second (is.made ps vs d);
     }
 
-    pub second-stops : (q : Part) (bad : ℕ) → has (own_starts p) t.letter ≡ false → Stops rules s q at bad → Stops rules s (either p q) at bad
+    pub second-stops : (q : Part) (bad : ℕ) → has (first_set p) t.letter ≡ false → Stops rules s q at bad → Stops rules s (either p q) at bad
     second-stops q bad h stops = record {
       from = stops.from;
       to = stops.to;
       off = λ ps. rw here (read-second rules p q t (drop (at + 1) s) ps h) ∙ stops.off ps;
     }
 
-    pub put_in-stands : (next : ℕ) (v : Tree) → has (own_starts p) t.letter ≡ true → Stands rules s p at next v → Stands rules s (maybe p) at next v
+    pub put_in-stands : (next : ℕ) (v : Tree) → has (first_set p) t.letter ≡ true → Stands rules s p at next v → Stands rules s (maybe p) at next v
     put_in-stands next v h is = record {
       from = is.from;
       to = is.to;
@@ -243,14 +243,14 @@ module _ (rules : Rules) (s : List Tok) where
       made = λ ps vs d. put_in (is.made ps vs d);
     }
 
-    pub put_in-stops : (bad : ℕ) → has (own_starts p) t.letter ≡ true → Stops rules s p at bad → Stops rules s (maybe p) at bad
+    pub put_in-stops : (bad : ℕ) → has (first_set p) t.letter ≡ true → Stops rules s p at bad → Stops rules s (maybe p) at bad
     put_in-stops bad h stops = record {
       from = stops.from;
       to = stops.to;
       off = λ ps. rw here (read-put_in rules p t (drop (at + 1) s) ps h) ∙ stops.off ps;
     }
 
-    pub left_out-stands : has (own_starts p) t.letter ≡ false → Stands rules s (maybe p) at at nothing
+    pub left_out-stands : has (first_set p) t.letter ≡ false → Stands rules s (maybe p) at at nothing
     left_out-stands h = record {
       from = omega arith;
       to = let within = here-within at t here in omega arith;
@@ -258,7 +258,7 @@ module _ (rules : Rules) (s : List Tok) where
       made = λ ps vs d. left_out d;
     }
 
-    pub no_more-stands : has (own_starts p) t.letter ≡ false → Stands rules s (many p) at at nothing
+    pub no_more-stands : has (first_set p) t.letter ≡ false → Stands rules s (many p) at at nothing
     no_more-stands h = record {
       from = omega arith;
       to = let within = here-within at t here in omega arith;
@@ -266,18 +266,18 @@ module _ (rules : Rules) (s : List Tok) where
       made = λ ps vs d. no_more d;
     }
 
-    pub one_more-stops : (bad : ℕ) → is_filled p ≡ true → has (own_starts p) t.letter ≡ true → Stops rules s p at bad → Stops rules s (many p) at bad
-    one_more-stops bad filled h stops = record {
+    pub one_more-stops : (bad : ℕ) → is_never_empty p ≡ true → has (first_set p) t.letter ≡ true → Stops rules s p at bad → Stops rules s (many p) at bad
+    one_more-stops bad never_empty h stops = record {
       from = stops.from;
       to = stops.to;
-      off = λ ps. rw here (read-one_more rules p t (drop (at + 1) s) ps filled h) ∙ stops.off (many p ∷ ps);
+      off = λ ps. rw here (read-one_more rules p t (drop (at + 1) s) ps never_empty h) ∙ stops.off (many p ∷ ps);
     }
 
-    pub one_more-repeats : (next : ℕ) (v : Tree) → is_filled p ≡ true → has (own_starts p) t.letter ≡ true → Stands rules s p at next v → Repeats rules s p at next (v ∷ [])
-    one_more-repeats next v filled h is = record {
+    pub one_more-repeats : (next : ℕ) (v : Tree) → is_never_empty p ≡ true → has (first_set p) t.letter ≡ true → Stands rules s p at next v → Repeats rules s p at next (v ∷ [])
+    one_more-repeats next v never_empty h is = record {
       from = is.from;
       to = is.to;
-      on = λ ps. rw here (read-one_more rules p t (drop (at + 1) s) ps filled h) ∙ is.on (many p ∷ ps);
+      on = λ ps. rw here (read-one_more rules p t (drop (at + 1) s) ps never_empty h) ∙ is.on (many p ∷ ps);
       made = λ ps ws w d. one_more (is.made (many p ∷ ps) (w ∷ ws) d);
     }
 
@@ -354,7 +354,7 @@ read-nothing rules s next more = by (drop next s) (length-drop next s)
     by [] e = absurd (omega arith)
     by (t ∷ u) e = let size : 1 + length u ≡ length s - next = omega arith in ap (λ n. Some n) size
 
-module _ (rules : Rules) (follow : ℕ → List ℕ) (p : Part) (s : List Tok) (good : AreGood rules follow) (d : AreDecided follow (p ∷ [])) where
+module _ (rules : Rules) (follow : ℕ → List ℕ) (p : Part) (s : List Tok) (good : AreGood rules follow) (d : AreLL1 follow (p ∷ [])) where
   wrong-at : (bad : ℕ) → bad ≤ length s → read rules s (Some (p ∷ [])) ≡ Some (length s - bad) → IsWrongAt rules (p ∷ []) s (bad + 1)
   wrong-at bad within e =
       let size : length s - (length s - bad) + 1 ≡ bad + 1 = omega arith in

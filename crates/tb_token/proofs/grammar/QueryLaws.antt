@@ -2,7 +2,7 @@
 use Rattle.std.proofs.Common.{◌≡◌, ℕ, zero, suc, true, List, [], ◌∷◌, refl}
 use Rattle.tb_token.specs.grammar.Grammar.{Tok, Part, one, both, either, many, Rules}
 use Rattle.tb_token.specs.grammar.Sentences.{Tree, Derives, by_one, by_both, by_first, by_second, no_more, one_more, AreSentence}
-use Rattle.tb_token.specs.grammar.Decided.{is_decided, is_easy}
+use Rattle.tb_token.specs.grammar.LL1.{is_ll1, is_easy}
 use Rattle.tb_token.proofs.grammar.TreeLaws.{one-tree}
 use Rattle.tb_token.proofs.grammar.SentenceLaws.{sentence-one, sentence-both, sentence-first, sentence-second, sentence-no_more, sentence-one_more}
 use Rattle.tb_token.specs.grammar.Patterns.{doc}
@@ -11,10 +11,10 @@ use Rattle.tb_token.specs.grammar.Queries.{rules, follow}
 use Rattle.tb_token.specs.grammar.QueryLaws.{IsReadable, AreOneQuery, IsWrittenPath}
 use Rattle.tb_token.specs.tokens.LetterNames as letters
 
-rules-decided : (n : ℕ) → is_decided follow (follow n) (rules n) ≡ true
-rules-decided zero = refl
-rules-decided (suc zero) = refl
-rules-decided (suc (suc n)) = refl
+rules-ll1 : (n : ℕ) → is_ll1 follow (follow n) (rules n) ≡ true
+rules-ll1 zero = refl
+rules-ll1 (suc zero) = refl
+rules-ll1 (suc (suc n)) = refl
 
 rules-easy : (n : ℕ) → is_easy (rules n) ≡ true
 rules-easy zero = refl
@@ -23,7 +23,7 @@ rules-easy (suc (suc n)) = refl
 
 pub readable : IsReadable
 readable = record {
-  good = record { decided = rules-decided; easy = rules-easy };
+  good = record { ll1 = rules-ll1; easy = rules-easy };
   queries = (refl, tt);
   matches = (refl, tt);
 }
@@ -37,8 +37,8 @@ one-query s v w d e = first-tree v w (one-tree rules follow readable.good readab
 -- Whatever stands behind: the prefix may begin with more of a part, or be left alone.
 
 module _ (rules : Rules) (p q : Part) (c : List ℕ) (ps : List Part) where
-  abbrev Decided : List Tok → Type 0
-  Decided s = AreSentence rules (either (both p (both q (many q))) (both (one c) (many q)) ∷ ps) s
+  abbrev LL1 : List Tok → Type 0
+  LL1 s = AreSentence rules (either (both p (both q (many q))) (both (one c) (many q)) ∷ ps) s
 
   abbrev Written : List Tok → Type 0
   Written s = AreSentence rules (either (both (either p (one c)) (both q (many q))) (one c) ∷ ps) s
@@ -58,24 +58,24 @@ module _ (rules : Rules) (p q : Part) (c : List ℕ) (ps : List Part) where
       (sentence-second rules p (one c) (both q (many q) ∷ ps) (t ∷ u)
       (sentence-one rules c t (both q (many q) ∷ ps) u h (sentence-both rules q (many q) ps u (v ∷ x ∷ vs, w)))))
 
-  decided-written : {vs : List Tree} {s : List Tok} → Derives rules (either (both p (both q (many q))) (both (one c) (many q)) ∷ ps) vs s → Written s
-  decided-written (by_first (by_both w)) = long-written w
-  decided-written (by_second (by_both w)) = more-written w
+  ll1-written : {vs : List Tree} {s : List Tok} → Derives rules (either (both p (both q (many q))) (both (one c) (many q)) ∷ ps) vs s → Written s
+  ll1-written (by_first (by_both w)) = long-written w
+  ll1-written (by_second (by_both w)) = more-written w
 
-  long-decided : {vs : List Tree} {s : List Tok} → Derives rules (either p (one c) ∷ both q (many q) ∷ ps) vs s → Decided s
-  long-decided {s = s} (by_first {v = v} {vs = vs} w) =
+  long-ll1 : {vs : List Tree} {s : List Tok} → Derives rules (either p (one c) ∷ both q (many q) ∷ ps) vs s → LL1 s
+  long-ll1 {s = s} (by_first {v = v} {vs = vs} w) =
       sentence-first rules (both p (both q (many q))) (both (one c) (many q)) ps s (sentence-both rules p (both q (many q)) ps s (v ∷ vs, w))
-  long-decided (by_second (by_one {t = t} {s = u} h (by_both {v = v} {w = x} {vs = vs} w))) =
+  long-ll1 (by_second (by_one {t = t} {s = u} h (by_both {v = v} {w = x} {vs = vs} w))) =
       sentence-second rules (both p (both q (many q))) (both (one c) (many q)) ps (t ∷ u)
       (sentence-both rules (one c) (many q) ps (t ∷ u) (sentence-one rules c t (many q ∷ ps) u h (sentence-one_more rules q ps u (v ∷ x ∷ vs, w))))
 
-  written-decided : {vs : List Tree} {s : List Tok} → Derives rules (either (both (either p (one c)) (both q (many q))) (one c) ∷ ps) vs s → Decided s
-  written-decided (by_first (by_both w)) = long-decided w
-  written-decided (by_second (by_one {t = t} {vs = vs} {s = u} h w)) =
+  written-ll1 : {vs : List Tree} {s : List Tok} → Derives rules (either (both (either p (one c)) (both q (many q))) (one c) ∷ ps) vs s → LL1 s
+  written-ll1 (by_first (by_both w)) = long-ll1 w
+  written-ll1 (by_second (by_one {t = t} {vs = vs} {s = u} h w)) =
       sentence-second rules (both p (both q (many q))) (both (one c) (many q)) ps (t ∷ u)
       (sentence-both rules (one c) (many q) ps (t ∷ u) (sentence-one rules c t (many q ∷ ps) u h (sentence-no_more rules q ps u (vs, w))))
 
 pub is-written_path : IsWrittenPath
 is-written_path ps s =
     let c = letters.VARIABLE ∷ [] in
-    (λ sentence. decided-written rules doc step c ps sentence.1, λ sentence. written-decided rules doc step c ps sentence.1)
+    (λ sentence. ll1-written rules doc step c ps sentence.1, λ sentence. written-ll1 rules doc step c ps sentence.1)

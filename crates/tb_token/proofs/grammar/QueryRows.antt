@@ -3,7 +3,7 @@ use Rattle.std.proofs.Common.{◌≡◌, ℕ, zero, suc, ◌+◌, ◌-◌, true,
 use Rattle.std.specs.Prelude.{codes}
 use Rattle.tb_token.specs.grammar.Grammar.{Tok, Part}
 use Rattle.tb_token.specs.grammar.Reading.{read}
-use Rattle.tb_token.specs.grammar.Decided.{is_decided}
+use Rattle.tb_token.specs.grammar.LL1.{is_ll1}
 use Rattle.tb_token.specs.tokens.Bytes.{is_blank}
 use Rattle.tb_token.specs.tokens.Prefixes.{prefix_of}
 use Rattle.tb_token.specs.tokens.Cuts.{token}
@@ -74,5 +74,5 @@ pub literal-left : left_of query (codes "FOR $x IN $y/a WHERE 1 = $x RETURN $x")
 literal-left = refl
 
 -- a path as it is written has two choices that begin with one token
-pub written_path-undecided : is_decided follow [] written_path ≡ false
-written_path-undecided = refl
+pub written_path-not_ll1 : is_ll1 follow [] written_path ≡ false
+written_path-not_ll1 = refl

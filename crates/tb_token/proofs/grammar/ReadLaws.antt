@@ -3,10 +3,10 @@ use Rattle.std.proofs.Common.{◌≡◌, ◌⊎◌, inl, inr, ⊎_elim, ℕ, zer
 use Rattle.std.proofs.lemmas.Bool.{and_parts, or_cases}
 use Rattle.tb_token.specs.grammar.Grammar.{Tok, Part, one, both, either, maybe, many, opened, Rules, has}
 use Rattle.tb_token.specs.grammar.Sentences.{Tree, Derives, by_one, by_both, by_first, by_second, left_out, put_in, no_more, one_more, by_rule, AreSentence, Begin, IsWrongAt}
-use Rattle.tb_token.specs.grammar.Reading.{is_filled, may_end, own_starts, takes, after, read}
-use Rattle.tb_token.specs.grammar.Decided.{are_apart, all_starts, AreDecided, AreGood}
+use Rattle.tb_token.specs.grammar.Reading.{is_never_empty, may_end, first_set, takes, after, read}
+use Rattle.tb_token.specs.grammar.LL1.{are_apart, first_set_of_all, AreLL1, AreGood}
 use Rattle.tb_token.proofs.grammar.LetterLaws.{none-true, apart-none}
-use Rattle.tb_token.proofs.grammar.SentenceLaws.{both-decided, first-decided, second-decided, maybe-decided, many-decided, rule-decided, either-filled, maybe-filled, many-filled, sentence-starts, own-starts, none-ends, sentence-one, sentence-both, sentence-first, sentence-second, sentence-left_out, sentence-put_in, sentence-no_more, sentence-one_more, sentence-rule, none-sentence, have-sentence}
+use Rattle.tb_token.proofs.grammar.SentenceLaws.{both-ll1, first-ll1, second-ll1, maybe-ll1, many-ll1, rule-ll1, either-never_empty, maybe-never_empty, many-never_empty, sentence-first_set_before, first_set-first_set_before, none-ends, sentence-one, sentence-both, sentence-first, sentence-second, sentence-left_out, sentence-put_in, sentence-no_more, sentence-one_more, sentence-rule, none-sentence, have-sentence}
 
 some-is : {A : Type 0} (x y : A) → ◌≡◌ {A = Option A} (Some x) (Some y) → x ≡ y
 some-is x y e = cc
@@ -43,17 +43,17 @@ module _ (rules : Rules) (t : Tok) (s : List Tok) where
       ⊎_elim
       (λ one_is. sentence-first rules p q ps (t ∷ s) (takes-leads p ps o leads hs one_is.1 sentence))
       (λ two_is. sentence-second rules p q ps (t ∷ s) (takes-leads q ps o leads hs two_is.1 sentence))
-      (if-cases (has (own_starts p) t.letter) (takes rules p t.letter ps o) (takes rules q t.letter ps o) hs e)
+      (if-cases (has (first_set p) t.letter) (takes rules p t.letter ps o) (takes rules q t.letter ps o) hs e)
   takes-leads (maybe p) ps o leads = λ hs e sentence.
       ⊎_elim
       (λ one_is. sentence-put_in rules p ps (t ∷ s) (takes-leads p ps o leads hs one_is.1 sentence))
       (λ two_is. sentence-left_out rules p ps (t ∷ s) (leads hs two_is.1 sentence))
-      (if-cases (has (own_starts p) t.letter) (takes rules p t.letter ps o) o hs e)
+      (if-cases (has (first_set p) t.letter) (takes rules p t.letter ps o) o hs e)
   takes-leads (many p) ps o leads = λ hs e sentence.
       ⊎_elim
       (λ one_is. sentence-one_more rules p ps (t ∷ s) (takes-leads p (many p ∷ ps) None (none-leads (many p ∷ ps)) hs one_is.1 sentence))
       (λ two_is. sentence-no_more rules p ps (t ∷ s) (leads hs two_is.1 sentence))
-      (if-cases (has (own_starts p) t.letter) (takes rules p t.letter (many p ∷ ps) None) o hs e)
+      (if-cases (has (first_set p) t.letter) (takes rules p t.letter (many p ∷ ps) None) o hs e)
   takes-leads (opened c n) ps o leads = λ hs e sentence.
       let is = if-some (has c t.letter) (rules n ∷ ps) hs e in
       sentence-rule rules c n t ps s is.0 (rw is.1 sentence)
@@ -62,22 +62,22 @@ module _ (rules : Rules) (t : Tok) (s : List Tok) where
   after-leads [] = none-leads []
   after-leads (p ∷ ps) = takes-leads p ps (after rules ps t.letter) (after-leads ps)
 
--- what a filled part takes does not depend on what is behind it
-pub takes-filled : (rules : Rules) (p : Part) (x : ℕ) (ps : List Part) (o u : Option (List Part)) → is_filled p ≡ true → takes rules p x ps o ≡ takes rules p x ps u
-takes-filled rules (one c) x ps o u filled = refl
-takes-filled rules (both p q) x ps o u filled =
+-- what a part that is not nullable takes does not depend on what is behind it
+pub takes-never_empty : (rules : Rules) (p : Part) (x : ℕ) (ps : List Part) (o u : Option (List Part)) → is_never_empty p ≡ true → takes rules p x ps o ≡ takes rules p x ps u
+takes-never_empty rules (one c) x ps o u never_empty = refl
+takes-never_empty rules (both p q) x ps o u never_empty =
     ⊎_elim
-    (λ one_is. takes-filled rules p x (q ∷ ps) (takes rules q x ps o) (takes rules q x ps u) one_is)
-    (λ two_is. ap (λ r. takes rules p x (q ∷ ps) r) (takes-filled rules q x ps o u two_is))
-    (or_cases (is_filled p) (is_filled q) filled)
-takes-filled rules (either p q) x ps o u filled =
-    let parts = and_parts (is_filled p) (is_filled q) filled in
-    let one_is = takes-filled rules p x ps o u parts.0 in
-    let two_is = takes-filled rules q x ps o u parts.1 in
+    (λ one_is. takes-never_empty rules p x (q ∷ ps) (takes rules q x ps o) (takes rules q x ps u) one_is)
+    (λ two_is. ap (λ r. takes rules p x (q ∷ ps) r) (takes-never_empty rules q x ps o u two_is))
+    (or_cases (is_never_empty p) (is_never_empty q) never_empty)
+takes-never_empty rules (either p q) x ps o u never_empty =
+    let parts = and_parts (is_never_empty p) (is_never_empty q) never_empty in
+    let one_is = takes-never_empty rules p x ps o u parts.0 in
+    let two_is = takes-never_empty rules q x ps o u parts.1 in
     rw (one_is, two_is) refl
-takes-filled rules (maybe p) x ps o u filled = none-true false refl filled
-takes-filled rules (many p) x ps o u filled = none-true false refl filled
-takes-filled rules (opened c n) x ps o u filled = refl
+takes-never_empty rules (maybe p) x ps o u never_empty = none-true false refl never_empty
+takes-never_empty rules (many p) x ps o u never_empty = none-true false refl never_empty
+takes-never_empty rules (opened c n) x ps o u never_empty = refl
 
 -- a letter that the second begin with, the first do not
 none-by : (xs ys : List ℕ) (x : ℕ) → are_apart xs ys ≡ true → has ys x ≡ true → has xs x ≡ false
@@ -96,94 +96,94 @@ module _ (rules : Rules) (follow : ℕ → List ℕ) (good : AreGood rules follo
     pub goes : after rules ps t.letter ≡ Some to_come
     pub sentence : AreSentence rules to_come s
 
-  pub sentence-goes : {ps : List Part} {vs : List Tree} {t : Tok} {s : List Tok} → AreDecided follow ps → Derives rules ps vs (t ∷ s) → GoesOn ps t s
+  pub sentence-goes : {ps : List Part} {vs : List Tree} {t : Tok} {s : List Tok} → AreLL1 follow ps → Derives rules ps vs (t ∷ s) → GoesOn ps t s
   sentence-goes {s = s} d (by_one {ps = ps} {vs = vs} h w) = record { to_come = ps; goes = rw h refl; sentence = (vs, w) }
   sentence-goes d (by_both {p = p} {q = q} {ps = ps} w) =
-      let on = sentence-goes (both-decided rules follow good p q ps d) w in
+      let on = sentence-goes (both-ll1 rules follow good p q ps d) w in
       record { to_come = on.to_come; goes = on.goes; sentence = on.sentence }
   sentence-goes d (by_first {p = p} {q = q} {ps = ps} w) =
-      let filled = either-filled rules follow good p q ps d in
-      let here = own-starts rules follow good (first-decided rules follow good p q ps d) filled.0 w in
-      let on = sentence-goes (first-decided rules follow good p q ps d) w in
+      let never_empty = either-never_empty rules follow good p q ps d in
+      let here = first_set-first_set_before rules follow good (first-ll1 rules follow good p q ps d) never_empty.0 w in
+      let on = sentence-goes (first-ll1 rules follow good p q ps d) w in
       record { to_come = on.to_come; goes = rw here on.goes; sentence = on.sentence }
   sentence-goes {t = t} d (by_second {p = p} {q = q} {ps = ps} w) =
-      let filled = either-filled rules follow good p q ps d in
-      let there = own-starts rules follow good (second-decided rules follow good p q ps d) filled.1 w in
-      let other = none-by (own_starts p) (own_starts q) t.letter filled.2 there in
-      let on = sentence-goes (second-decided rules follow good p q ps d) w in
+      let never_empty = either-never_empty rules follow good p q ps d in
+      let there = first_set-first_set_before rules follow good (second-ll1 rules follow good p q ps d) never_empty.1 w in
+      let other = none-by (first_set p) (first_set q) t.letter never_empty.2 there in
+      let on = sentence-goes (second-ll1 rules follow good p q ps d) w in
       record { to_come = on.to_come; goes = rw other on.goes; sentence = on.sentence }
   sentence-goes {t = t} d (left_out {p = p} {ps = ps} w) =
-      let filled = maybe-filled rules follow good p ps d in
-      let other = none-by (own_starts p) (all_starts ps) t.letter filled.1 (sentence-starts rules follow good d.1 w) in
+      let never_empty = maybe-never_empty rules follow good p ps d in
+      let other = none-by (first_set p) (first_set_of_all ps) t.letter never_empty.1 (sentence-first_set_before rules follow good d.1 w) in
       let on = sentence-goes d.1 w in
       record { to_come = on.to_come; goes = rw other on.goes; sentence = on.sentence }
   sentence-goes d (put_in {p = p} {ps = ps} w) =
-      let filled = maybe-filled rules follow good p ps d in
-      let here = own-starts rules follow good (maybe-decided rules follow good p ps d) filled.0 w in
-      let on = sentence-goes (maybe-decided rules follow good p ps d) w in
+      let never_empty = maybe-never_empty rules follow good p ps d in
+      let here = first_set-first_set_before rules follow good (maybe-ll1 rules follow good p ps d) never_empty.0 w in
+      let on = sentence-goes (maybe-ll1 rules follow good p ps d) w in
       record { to_come = on.to_come; goes = rw here on.goes; sentence = on.sentence }
   sentence-goes {t = t} d (no_more {p = p} {ps = ps} w) =
-      let filled = many-filled rules follow good p ps d in
-      let other = none-by (own_starts p) (all_starts ps) t.letter filled.1 (sentence-starts rules follow good d.1 w) in
+      let never_empty = many-never_empty rules follow good p ps d in
+      let other = none-by (first_set p) (first_set_of_all ps) t.letter never_empty.1 (sentence-first_set_before rules follow good d.1 w) in
       let on = sentence-goes d.1 w in
       record { to_come = on.to_come; goes = rw other on.goes; sentence = on.sentence }
   sentence-goes {t = t} d (one_more {p = p} {ps = ps} w) =
-      let filled = many-filled rules follow good p ps d in
-      let here = own-starts rules follow good (many-decided rules follow good p ps d) filled.0 w in
-      let on = sentence-goes (many-decided rules follow good p ps d) w in
-      let same = takes-filled rules p t.letter (many p ∷ ps) None (after rules (many p ∷ ps) t.letter) filled.0 in
+      let never_empty = many-never_empty rules follow good p ps d in
+      let here = first_set-first_set_before rules follow good (many-ll1 rules follow good p ps d) never_empty.0 w in
+      let on = sentence-goes (many-ll1 rules follow good p ps d) w in
+      let same = takes-never_empty rules p t.letter (many p ∷ ps) None (after rules (many p ∷ ps) t.letter) never_empty.0 in
       record { to_come = on.to_come; goes = rw (here, same) on.goes; sentence = on.sentence }
   sentence-goes {s = s} d (by_rule {n = n} {ps = ps} {v = v} {vs = vs} h w) = record { to_come = rules n ∷ ps; goes = rw h refl; sentence = (v ∷ vs, w) }
 
-  -- What is still to come, is decided.
+  -- What is still to come is LL(1).
 
   abbrev Stays : Option (List Part) → Type 0
-  Stays o = (hs : List Part) → o ≡ Some hs → AreDecided follow hs
+  Stays o = (hs : List Part) → o ≡ Some hs → AreLL1 follow hs
 
   none-stays : Stays None
   none-stays = λ hs e. none-some hs e
 
-  takes-decided : (p : Part) (x : ℕ) (ps : List Part) (o : Option (List Part)) → AreDecided follow (p ∷ ps) → Stays o → Stays (takes rules p x ps o)
-  takes-decided (one c) x ps o d stays = λ hs e. let is = if-some (has c x) ps hs e in rw (← is.1) d.1
-  takes-decided (both p q) x ps o d stays =
-      let two = both-decided rules follow good p q ps d in
-      takes-decided p x (q ∷ ps) (takes rules q x ps o) two (takes-decided q x ps o two.1 stays)
-  takes-decided (either p q) x ps o d stays = λ hs e.
+  takes-ll1 : (p : Part) (x : ℕ) (ps : List Part) (o : Option (List Part)) → AreLL1 follow (p ∷ ps) → Stays o → Stays (takes rules p x ps o)
+  takes-ll1 (one c) x ps o d stays = λ hs e. let is = if-some (has c x) ps hs e in rw (← is.1) d.1
+  takes-ll1 (both p q) x ps o d stays =
+      let two = both-ll1 rules follow good p q ps d in
+      takes-ll1 p x (q ∷ ps) (takes rules q x ps o) two (takes-ll1 q x ps o two.1 stays)
+  takes-ll1 (either p q) x ps o d stays = λ hs e.
       ⊎_elim
-      (λ one_is. takes-decided p x ps o (first-decided rules follow good p q ps d) stays hs one_is.1)
-      (λ two_is. takes-decided q x ps o (second-decided rules follow good p q ps d) stays hs two_is.1)
-      (if-cases (has (own_starts p) x) (takes rules p x ps o) (takes rules q x ps o) hs e)
-  takes-decided (maybe p) x ps o d stays = λ hs e.
+      (λ one_is. takes-ll1 p x ps o (first-ll1 rules follow good p q ps d) stays hs one_is.1)
+      (λ two_is. takes-ll1 q x ps o (second-ll1 rules follow good p q ps d) stays hs two_is.1)
+      (if-cases (has (first_set p) x) (takes rules p x ps o) (takes rules q x ps o) hs e)
+  takes-ll1 (maybe p) x ps o d stays = λ hs e.
       ⊎_elim
-      (λ one_is. takes-decided p x ps o (maybe-decided rules follow good p ps d) stays hs one_is.1)
+      (λ one_is. takes-ll1 p x ps o (maybe-ll1 rules follow good p ps d) stays hs one_is.1)
       (λ two_is. stays hs two_is.1)
-      (if-cases (has (own_starts p) x) (takes rules p x ps o) o hs e)
-  takes-decided (many p) x ps o d stays = λ hs e.
+      (if-cases (has (first_set p) x) (takes rules p x ps o) o hs e)
+  takes-ll1 (many p) x ps o d stays = λ hs e.
       ⊎_elim
-      (λ one_is. takes-decided p x (many p ∷ ps) None (many-decided rules follow good p ps d) none-stays hs one_is.1)
+      (λ one_is. takes-ll1 p x (many p ∷ ps) None (many-ll1 rules follow good p ps d) none-stays hs one_is.1)
       (λ two_is. stays hs two_is.1)
-      (if-cases (has (own_starts p) x) (takes rules p x (many p ∷ ps) None) o hs e)
-  takes-decided (opened c n) x ps o d stays = λ hs e.
+      (if-cases (has (first_set p) x) (takes rules p x (many p ∷ ps) None) o hs e)
+  takes-ll1 (opened c n) x ps o d stays = λ hs e.
       let is = if-some (has c x) (rules n ∷ ps) hs e in
-      rw (← is.1) (rule-decided rules follow good c n ps d)
+      rw (← is.1) (rule-ll1 rules follow good c n ps d)
 
-  after-decided : (ps : List Part) (x : ℕ) → AreDecided follow ps → Stays (after rules ps x)
-  after-decided [] x d = none-stays
-  after-decided (p ∷ ps) x d = takes-decided p x ps (after rules ps x) d (after-decided ps x d.1)
+  after-ll1 : (ps : List Part) (x : ℕ) → AreLL1 follow ps → Stays (after rules ps x)
+  after-ll1 [] x d = none-stays
+  after-ll1 (p ∷ ps) x d = takes-ll1 p x ps (after rules ps x) d (after-ll1 ps x d.1)
 
   -- A sentence's tokens and more begin as their first token does.
-  begin-goes : (ps : List Part) (t : Tok) (s : List Tok) (hs : List Part) → AreDecided follow ps → after rules ps t.letter ≡ Some hs → Begin rules ps (t ∷ s) → Begin rules hs s
+  begin-goes : (ps : List Part) (t : Tok) (s : List Tok) (hs : List Part) → AreLL1 follow ps → after rules ps t.letter ≡ Some hs → Begin rules ps (t ∷ s) → Begin rules hs s
   begin-goes ps t s hs d e begin =
       let on = sentence-goes d begin.1.1 in
       let same = some-is hs on.to_come (sym e ∙ on.goes) in
       (begin.0, rw same on.sentence)
 
-  begin-stops : {P : Type 0} (ps : List Part) (t : Tok) (s : List Tok) → AreDecided follow ps → after rules ps t.letter ≡ None → Begin rules ps (t ∷ s) → P
+  begin-stops : {P : Type 0} (ps : List Part) (t : Tok) (s : List Tok) → AreLL1 follow ps → after rules ps t.letter ≡ None → Begin rules ps (t ∷ s) → P
   begin-stops ps t s d e begin =
       let on = sentence-goes d begin.1.1 in
       none-some on.to_come (sym e ∙ on.goes)
 
-  begin-none : (ps : List Part) → AreDecided follow ps → Begin rules ps []
+  begin-none : (ps : List Part) → AreLL1 follow ps → Begin rules ps []
   begin-none ps d = have-sentence rules follow good ps d
 
   begin-more : (ps : List Part) (t : Tok) (s : List Tok) (hs : List Part) → after rules ps t.letter ≡ Some hs → Begin rules hs s → Begin rules ps (t ∷ s)
@@ -193,7 +193,7 @@ module _ (rules : Rules) (follow : ℕ → List ℕ) (good : AreGood rules follo
   begin-sentence ps s sentence = ([], rw append-nil sentence)
 
   -- the list is wrong at its first token
-  wrong-first : (ps : List Part) (t : Tok) (s : List Tok) → AreDecided follow ps → after rules ps t.letter ≡ None → IsWrongAt rules ps (t ∷ s) 1
+  wrong-first : (ps : List Part) (t : Tok) (s : List Tok) → AreLL1 follow ps → after rules ps t.letter ≡ None → IsWrongAt rules ps (t ∷ s) 1
   wrong-first ps t s d e = record {
     some = omega arith;
     within = omega arith;
@@ -203,7 +203,7 @@ module _ (rules : Rules) (follow : ℕ → List ℕ) (good : AreGood rules follo
   }
 
   -- the list ends too early
-  wrong-end : (ps : List Part) → AreDecided follow ps → may_end ps ≡ false → IsWrongAt rules ps [] 1
+  wrong-end : (ps : List Part) → AreLL1 follow ps → may_end ps ≡ false → IsWrongAt rules ps [] 1
   wrong-end ps d e = record {
     some = omega arith;
     within = omega arith;
@@ -212,13 +212,13 @@ module _ (rules : Rules) (follow : ℕ → List ℕ) (good : AreGood rules follo
     none = λ sentence. none-true (may_end ps) e (none-ends sentence.1);
   }
 
-  before-more : (ps : List Part) (t : Tok) (s : List Tok) (hs : List Part) → AreDecided follow ps → after rules ps t.letter ≡ Some hs → (k : ℕ) → ((j : ℕ) → j < k → Begin rules hs (take j s))
+  before-more : (ps : List Part) (t : Tok) (s : List Tok) (hs : List Part) → AreLL1 follow ps → after rules ps t.letter ≡ Some hs → (k : ℕ) → ((j : ℕ) → j < k → Begin rules hs (take j s))
       → (j : ℕ) → j < suc k → Begin rules ps (take j (t ∷ s))
   before-more ps t s hs d e k before zero below = begin-none ps d
   before-more ps t s hs d e k before (suc j) below = begin-more ps t (take j s) hs e (before j (omega arith))
 
   -- the list is wrong behind its first token
-  wrong-more : (ps : List Part) (t : Tok) (s : List Tok) (hs : List Part) (k : ℕ) → AreDecided follow ps → after rules ps t.letter ≡ Some hs → IsWrongAt rules hs s k → IsWrongAt rules ps (t ∷ s) (suc k)
+  wrong-more : (ps : List Part) (t : Tok) (s : List Tok) (hs : List Part) (k : ℕ) → AreLL1 follow ps → after rules ps t.letter ≡ Some hs → IsWrongAt rules hs s k → IsWrongAt rules ps (t ∷ s) (suc k)
   wrong-more ps t s hs k d e wrong = record {
     some = omega arith;
     within = let le = wrong.within in omega arith;
@@ -244,7 +244,7 @@ module _ (rules : Rules) (follow : ℕ → List ℕ) (good : AreGood rules follo
       by (Some hs) e rest = let le = rest hs e in omega arith
 
   -- Where the reading stops, the list is wrong.
-  pub read-wrong : (s : List Tok) (ps : List Part) (left : ℕ) → AreDecided follow ps → read rules s (Some ps) ≡ Some left → IsWrongAt rules ps s (length s - left + 1)
+  pub read-wrong : (s : List Tok) (ps : List Part) (left : ℕ) → AreLL1 follow ps → read rules s (Some ps) ≡ Some left → IsWrongAt rules ps s (length s - left + 1)
   read-wrong [] ps left d e = by (may_end ps) refl e
     where
       by : (ends : Bool) → may_end ps ≡ ends → ◌≡◌ {A = Option ℕ} (cond ends None (Some 0)) (Some left) → IsWrongAt rules ps [] (0 - left + 1)
@@ -256,14 +256,14 @@ module _ (rules : Rules) (follow : ℕ → List ℕ) (good : AreGood rules follo
   read-wrong (t ∷ s) ps left d e = by (after rules ps t.letter) refl e (λ hs stays f. read-wrong s hs left stays f)
     where
       by : (o : Option (List Part)) → after rules ps t.letter ≡ o → read rules s o ≡ Some left
-          → ((hs : List Part) → AreDecided follow hs → read rules s (Some hs) ≡ Some left → IsWrongAt rules hs s (length s - left + 1))
+          → ((hs : List Part) → AreLL1 follow hs → read rules s (Some hs) ≡ Some left → IsWrongAt rules hs s (length s - left + 1))
           → IsWrongAt rules ps (t ∷ s) (suc (length s) - left + 1)
       by None f e rest =
           let same = some-is (1 + length s) left e in
           let size : suc (length s) - left + 1 ≡ 1 = omega arith in
           rw size (wrong-first ps t s d f)
       by (Some hs) f e rest =
-          let wrong = rest hs (after-decided ps t.letter d hs f) e in
+          let wrong = rest hs (after-ll1 ps t.letter d hs f) e in
           let le = read-le s hs left e in
           let size : suc (length s) - left + 1 ≡ suc (length s - left + 1) = omega arith in
           rw size (wrong-more ps t s hs (length s - left + 1) d f wrong)

@@ -3,95 +3,95 @@ use Rattle.std.proofs.Common.{◌≡◌, ⊎_elim, ℕ, Bool, true, false, cond,
 use Rattle.std.proofs.lemmas.Bool.{and_parts, or_cases, or_parts, and_cases}
 use Rattle.tb_token.specs.grammar.Grammar.{Tok, Part, one, both, either, maybe, many, opened, Rules, has}
 use Rattle.tb_token.specs.grammar.Sentences.{Tree, leaf, nothing, pair, first, second, Derives, at_end, by_one, by_both, by_first, by_second, left_out, put_in, no_more, one_more, by_rule, AreSentence}
-use Rattle.tb_token.specs.grammar.Reading.{is_filled, may_end, starts, own_starts}
-use Rattle.tb_token.specs.grammar.Decided.{all_in, are_apart, is_some, all_starts, is_decided, AreDecided, AreGood, is_easy}
+use Rattle.tb_token.specs.grammar.Reading.{is_never_empty, may_end, first_set_before, first_set}
+use Rattle.tb_token.specs.grammar.LL1.{all_in, are_apart, is_some, first_set_of_all, is_ll1, AreLL1, AreGood, is_easy}
 use Rattle.tb_token.proofs.grammar.LetterLaws.{none-true, has-left, has-right, within-all_in, and-three, and-five, and-false, has-first}
-use Rattle.tb_token.proofs.grammar.StartLaws.{starts-filled, decided-within}
+use Rattle.tb_token.proofs.grammar.FirstLaws.{first_set_before-never_empty, ll1-within}
 
 module _ (rules : Rules) (follow : ℕ → List ℕ) (good : AreGood rules follow) where
-  -- What stands on top of a decided list once its first part is taken apart, is decided.
+  -- What stands on top of an LL(1) list once its first part is taken apart, is LL(1).
 
-  pub both-decided : (p q : Part) (ps : List Part) → AreDecided follow (both p q ∷ ps) → AreDecided follow (p ∷ q ∷ ps)
-  both-decided p q ps d =
-      let parts = and_parts (is_decided follow (starts q (all_starts ps)) p) (is_decided follow (all_starts ps) q) d.0 in
+  pub both-ll1 : (p q : Part) (ps : List Part) → AreLL1 follow (both p q ∷ ps) → AreLL1 follow (p ∷ q ∷ ps)
+  both-ll1 p q ps d =
+      let parts = and_parts (is_ll1 follow (first_set_before q (first_set_of_all ps)) p) (is_ll1 follow (first_set_of_all ps) q) d.0 in
       (parts.0, (parts.1, d.1))
 
-  pub first-decided : (p q : Part) (ps : List Part) → AreDecided follow (either p q ∷ ps) → AreDecided follow (p ∷ ps)
-  first-decided p q ps d =
-      let parts = and-five (is_filled p) (is_filled q) (are_apart (own_starts p) (own_starts q)) (is_decided follow (all_starts ps) p) (is_decided follow (all_starts ps) q) d.0 in
+  pub first-ll1 : (p q : Part) (ps : List Part) → AreLL1 follow (either p q ∷ ps) → AreLL1 follow (p ∷ ps)
+  first-ll1 p q ps d =
+      let parts = and-five (is_never_empty p) (is_never_empty q) (are_apart (first_set p) (first_set q)) (is_ll1 follow (first_set_of_all ps) p) (is_ll1 follow (first_set_of_all ps) q) d.0 in
       (parts.3, d.1)
 
-  pub second-decided : (p q : Part) (ps : List Part) → AreDecided follow (either p q ∷ ps) → AreDecided follow (q ∷ ps)
-  second-decided p q ps d =
-      let parts = and-five (is_filled p) (is_filled q) (are_apart (own_starts p) (own_starts q)) (is_decided follow (all_starts ps) p) (is_decided follow (all_starts ps) q) d.0 in
+  pub second-ll1 : (p q : Part) (ps : List Part) → AreLL1 follow (either p q ∷ ps) → AreLL1 follow (q ∷ ps)
+  second-ll1 p q ps d =
+      let parts = and-five (is_never_empty p) (is_never_empty q) (are_apart (first_set p) (first_set q)) (is_ll1 follow (first_set_of_all ps) p) (is_ll1 follow (first_set_of_all ps) q) d.0 in
       (parts.4, d.1)
 
-  pub maybe-decided : (p : Part) (ps : List Part) → AreDecided follow (maybe p ∷ ps) → AreDecided follow (p ∷ ps)
-  maybe-decided p ps d =
-      let parts = and-three (is_filled p) (are_apart (own_starts p) (all_starts ps)) (is_decided follow (all_starts ps) p) d.0 in
+  pub maybe-ll1 : (p : Part) (ps : List Part) → AreLL1 follow (maybe p ∷ ps) → AreLL1 follow (p ∷ ps)
+  maybe-ll1 p ps d =
+      let parts = and-three (is_never_empty p) (are_apart (first_set p) (first_set_of_all ps)) (is_ll1 follow (first_set_of_all ps) p) d.0 in
       (parts.2, d.1)
 
-  pub many-decided : (p : Part) (ps : List Part) → AreDecided follow (many p ∷ ps) → AreDecided follow (p ∷ many p ∷ ps)
-  many-decided p ps d =
-      let parts = and-three (is_filled p) (are_apart (own_starts p) (all_starts ps)) (is_decided follow (starts (many p) (all_starts ps)) p) d.0 in
+  pub many-ll1 : (p : Part) (ps : List Part) → AreLL1 follow (many p ∷ ps) → AreLL1 follow (p ∷ many p ∷ ps)
+  many-ll1 p ps d =
+      let parts = and-three (is_never_empty p) (are_apart (first_set p) (first_set_of_all ps)) (is_ll1 follow (first_set_before (many p) (first_set_of_all ps)) p) d.0 in
       (parts.2, d)
 
-  pub rule-decided : (c : List ℕ) (n : ℕ) (ps : List Part) → AreDecided follow (opened c n ∷ ps) → AreDecided follow (rules n ∷ ps)
-  rule-decided c n ps d =
-      let parts = and_parts (is_some c) (all_in (all_starts ps) (follow n)) d.0 in
-      (decided-within follow (rules n) (all_starts ps) (follow n) (within-all_in (all_starts ps) (follow n) parts.1) (good.decided n), d.1)
+  pub rule-ll1 : (c : List ℕ) (n : ℕ) (ps : List Part) → AreLL1 follow (opened c n ∷ ps) → AreLL1 follow (rules n ∷ ps)
+  rule-ll1 c n ps d =
+      let parts = and_parts (is_some c) (all_in (first_set_of_all ps) (follow n)) d.0 in
+      (ll1-within follow (rules n) (first_set_of_all ps) (follow n) (within-all_in (first_set_of_all ps) (follow n) parts.1) (good.ll1 n), d.1)
 
-  pub either-filled : (p q : Part) (ps : List Part) → AreDecided follow (either p q ∷ ps) → (is_filled p ≡ true) × (is_filled q ≡ true) × (are_apart (own_starts p) (own_starts q) ≡ true)
-  either-filled p q ps d =
-      let parts = and-five (is_filled p) (is_filled q) (are_apart (own_starts p) (own_starts q)) (is_decided follow (all_starts ps) p) (is_decided follow (all_starts ps) q) d.0 in
+  pub either-never_empty : (p q : Part) (ps : List Part) → AreLL1 follow (either p q ∷ ps) → (is_never_empty p ≡ true) × (is_never_empty q ≡ true) × (are_apart (first_set p) (first_set q) ≡ true)
+  either-never_empty p q ps d =
+      let parts = and-five (is_never_empty p) (is_never_empty q) (are_apart (first_set p) (first_set q)) (is_ll1 follow (first_set_of_all ps) p) (is_ll1 follow (first_set_of_all ps) q) d.0 in
       (parts.0, parts.1, parts.2)
 
-  pub maybe-filled : (p : Part) (ps : List Part) → AreDecided follow (maybe p ∷ ps) → (is_filled p ≡ true) × (are_apart (own_starts p) (all_starts ps) ≡ true)
-  maybe-filled p ps d =
-      let parts = and-three (is_filled p) (are_apart (own_starts p) (all_starts ps)) (is_decided follow (all_starts ps) p) d.0 in
+  pub maybe-never_empty : (p : Part) (ps : List Part) → AreLL1 follow (maybe p ∷ ps) → (is_never_empty p ≡ true) × (are_apart (first_set p) (first_set_of_all ps) ≡ true)
+  maybe-never_empty p ps d =
+      let parts = and-three (is_never_empty p) (are_apart (first_set p) (first_set_of_all ps)) (is_ll1 follow (first_set_of_all ps) p) d.0 in
       (parts.0, parts.1)
 
-  pub many-filled : (p : Part) (ps : List Part) → AreDecided follow (many p ∷ ps) → (is_filled p ≡ true) × (are_apart (own_starts p) (all_starts ps) ≡ true)
-  many-filled p ps d =
-      let parts = and-three (is_filled p) (are_apart (own_starts p) (all_starts ps)) (is_decided follow (starts (many p) (all_starts ps)) p) d.0 in
+  pub many-never_empty : (p : Part) (ps : List Part) → AreLL1 follow (many p ∷ ps) → (is_never_empty p ≡ true) × (are_apart (first_set p) (first_set_of_all ps) ≡ true)
+  many-never_empty p ps d =
+      let parts = and-three (is_never_empty p) (are_apart (first_set p) (first_set_of_all ps)) (is_ll1 follow (first_set_before (many p) (first_set_of_all ps)) p) d.0 in
       (parts.0, parts.1)
 
   -- the first token's letter is one that the parts begin with
-  pub sentence-starts : {ps : List Part} {vs : List Tree} {t : Tok} {s : List Tok} → AreDecided follow ps → Derives rules ps vs (t ∷ s) → has (all_starts ps) t.letter ≡ true
-  sentence-starts d (by_one h w) = h
-  sentence-starts d (by_both {p = p} {q = q} {ps = ps} w) = sentence-starts (both-decided p q ps d) w
-  sentence-starts {t = t} d (by_first {p = p} {q = q} {ps = ps} w) =
-      has-left (starts p (all_starts ps)) (starts q (all_starts ps)) t.letter (sentence-starts (first-decided p q ps d) w)
-  sentence-starts {t = t} d (by_second {p = p} {q = q} {ps = ps} w) =
-      has-right (starts p (all_starts ps)) (starts q (all_starts ps)) t.letter (sentence-starts (second-decided p q ps d) w)
-  sentence-starts {t = t} d (left_out {p = p} {ps = ps} w) =
-      has-right (starts p (all_starts ps)) (all_starts ps) t.letter (sentence-starts d.1 w)
-  sentence-starts {t = t} d (put_in {p = p} {ps = ps} w) =
-      has-left (starts p (all_starts ps)) (all_starts ps) t.letter (sentence-starts (maybe-decided p ps d) w)
-  sentence-starts {t = t} d (no_more {p = p} {ps = ps} w) =
-      has-right (starts p (all_starts ps)) (all_starts ps) t.letter (sentence-starts d.1 w)
-  sentence-starts {t = t} d (one_more {p = p} {ps = ps} w) =
-      let same = starts-filled p (starts (many p) (all_starts ps)) (all_starts ps) (many-filled p ps d).0 in
-      has-left (starts p (all_starts ps)) (all_starts ps) t.letter (rw same at (sentence-starts (many-decided p ps d) w))
-  sentence-starts d (by_rule h w) = h
+  pub sentence-first_set_before : {ps : List Part} {vs : List Tree} {t : Tok} {s : List Tok} → AreLL1 follow ps → Derives rules ps vs (t ∷ s) → has (first_set_of_all ps) t.letter ≡ true
+  sentence-first_set_before d (by_one h w) = h
+  sentence-first_set_before d (by_both {p = p} {q = q} {ps = ps} w) = sentence-first_set_before (both-ll1 p q ps d) w
+  sentence-first_set_before {t = t} d (by_first {p = p} {q = q} {ps = ps} w) =
+      has-left (first_set_before p (first_set_of_all ps)) (first_set_before q (first_set_of_all ps)) t.letter (sentence-first_set_before (first-ll1 p q ps d) w)
+  sentence-first_set_before {t = t} d (by_second {p = p} {q = q} {ps = ps} w) =
+      has-right (first_set_before p (first_set_of_all ps)) (first_set_before q (first_set_of_all ps)) t.letter (sentence-first_set_before (second-ll1 p q ps d) w)
+  sentence-first_set_before {t = t} d (left_out {p = p} {ps = ps} w) =
+      has-right (first_set_before p (first_set_of_all ps)) (first_set_of_all ps) t.letter (sentence-first_set_before d.1 w)
+  sentence-first_set_before {t = t} d (put_in {p = p} {ps = ps} w) =
+      has-left (first_set_before p (first_set_of_all ps)) (first_set_of_all ps) t.letter (sentence-first_set_before (maybe-ll1 p ps d) w)
+  sentence-first_set_before {t = t} d (no_more {p = p} {ps = ps} w) =
+      has-right (first_set_before p (first_set_of_all ps)) (first_set_of_all ps) t.letter (sentence-first_set_before d.1 w)
+  sentence-first_set_before {t = t} d (one_more {p = p} {ps = ps} w) =
+      let same = first_set_before-never_empty p (first_set_before (many p) (first_set_of_all ps)) (first_set_of_all ps) (many-never_empty p ps d).0 in
+      has-left (first_set_before p (first_set_of_all ps)) (first_set_of_all ps) t.letter (rw same at (sentence-first_set_before (many-ll1 p ps d) w))
+  sentence-first_set_before d (by_rule h w) = h
 
-  -- a filled part's first token is its own
-  pub own-starts : {p : Part} {ps : List Part} {vs : List Tree} {t : Tok} {s : List Tok} → AreDecided follow (p ∷ ps) → is_filled p ≡ true → Derives rules (p ∷ ps) vs (t ∷ s) → has (own_starts p) t.letter ≡ true
-  own-starts {p = p} {ps = ps} d filled w =
-      let same = starts-filled p (all_starts ps) [] filled in
-      rw same at (sentence-starts d w)
+  -- the first token of a part that is not nullable is its own
+  pub first_set-first_set_before : {p : Part} {ps : List Part} {vs : List Tree} {t : Tok} {s : List Tok} → AreLL1 follow (p ∷ ps) → is_never_empty p ≡ true → Derives rules (p ∷ ps) vs (t ∷ s) → has (first_set p) t.letter ≡ true
+  first_set-first_set_before {p = p} {ps = ps} d never_empty w =
+      let same = first_set_before-never_empty p (first_set_of_all ps) [] never_empty in
+      rw same at (sentence-first_set_before d w)
 
 -- no token at all is a sentence only where the parts may end
 
-ends-prefix : (p : Part) (ps : List Part) → may_end (p ∷ ps) ≡ true → (is_filled p ≡ false) × (may_end ps ≡ true)
-ends-prefix p ps is = by (is_filled p) (may_end ps) is
+ends-prefix : (p : Part) (ps : List Part) → may_end (p ∷ ps) ≡ true → (is_never_empty p ≡ false) × (may_end ps ≡ true)
+ends-prefix p ps is = by (is_never_empty p) (may_end ps) is
   where
-    by : (filled ends : Bool) → (cond filled false true && ends) ≡ true → (filled ≡ false) × (ends ≡ true)
+    by : (never_empty ends : Bool) → (cond never_empty false true && ends) ≡ true → (never_empty ≡ false) × (ends ≡ true)
     by true ends is = none-true false refl is
     by false ends is = (refl, is)
 
-ends-from : (p : Part) (ps : List Part) → is_filled p ≡ false → may_end ps ≡ true → may_end (p ∷ ps) ≡ true
-ends-from p ps filled ends = rw (filled, ends) refl
+ends-from : (p : Part) (ps : List Part) → is_never_empty p ≡ false → may_end ps ≡ true → may_end (p ∷ ps) ≡ true
+ends-from p ps never_empty ends = rw (never_empty, ends) refl
 
 pub none-ends : {rules : Rules} {ps : List Part} {vs : List Tree} → Derives rules ps vs [] → may_end ps ≡ true
 none-ends at_end = refl
@@ -104,15 +104,15 @@ none-ends (by_first {p = p} {q = q} {ps = ps} w) =
     ends-from (either p q) ps (rw is.0 refl) is.1
 none-ends (by_second {p = p} {q = q} {ps = ps} w) =
     let is = ends-prefix q ps (none-ends w) in
-    ends-from (either p q) ps (rw (is.0, and-false (is_filled p)) refl) is.1
+    ends-from (either p q) ps (rw (is.0, and-false (is_never_empty p)) refl) is.1
 none-ends (left_out {p = p} {ps = ps} w) = ends-from (maybe p) ps refl (none-ends w)
 none-ends (put_in {p = p} {ps = ps} w) = ends-from (maybe p) ps refl (ends-prefix p ps (none-ends w)).1
 none-ends (no_more {p = p} {ps = ps} w) = ends-from (many p) ps refl (none-ends w)
 none-ends (one_more {p = p} {ps = ps} w) = ends-from (many p) ps refl (ends-prefix (many p) ps (ends-prefix p (many p ∷ ps) (none-ends w)).1).1
 
--- a filled part takes a token
-pub filled-takes : {rules : Rules} {p : Part} {ps : List Part} {vs : List Tree} → is_filled p ≡ true → Derives rules (p ∷ ps) vs [] → ⊥
-filled-takes {p = p} {ps = ps} filled w = none-true (is_filled p) (ends-prefix p ps (none-ends w)).0 filled
+-- a part that is not nullable takes a token
+pub never_empty-takes : {rules : Rules} {p : Part} {ps : List Part} {vs : List Tree} → is_never_empty p ≡ true → Derives rules (p ∷ ps) vs [] → ⊥
+never_empty-takes {p = p} {ps = ps} never_empty w = none-true (is_never_empty p) (ends-prefix p ps (none-ends w)).0 never_empty
 
 -- each part has its tree
 pub trees-length : {rules : Rules} {ps : List Part} {vs : List Tree} {s : List Tok} → Derives rules ps vs s → length vs ≡ length ps
@@ -184,13 +184,13 @@ module _ (rules : Rules) where
       by (v ∷ vs) w = (pair (leaf t) v ∷ vs, by_rule h w)
 
   -- what is not filled may be left out
-  pub sentence-empty : (p : Part) (ps : List Part) (s : List Tok) → is_filled p ≡ false → AreSentence rules ps s → AreSentence rules (p ∷ ps) s
+  pub sentence-empty : (p : Part) (ps : List Part) (s : List Tok) → is_never_empty p ≡ false → AreSentence rules ps s → AreSentence rules (p ∷ ps) s
   sentence-empty (one c) ps s empty sentence = none-true true empty refl
   sentence-empty (both p q) ps s empty sentence =
-      let parts = or_parts (is_filled p) (is_filled q) empty in
+      let parts = or_parts (is_never_empty p) (is_never_empty q) empty in
       sentence-both p q ps s (sentence-empty p (q ∷ ps) s parts.0 (sentence-empty q ps s parts.1 sentence))
   sentence-empty (either p q) ps s empty sentence =
-      ⊎_elim (λ e. sentence-first p q ps s (sentence-empty p ps s e sentence)) (λ e. sentence-second p q ps s (sentence-empty q ps s e sentence)) (and_cases (is_filled p) (is_filled q) empty)
+      ⊎_elim (λ e. sentence-first p q ps s (sentence-empty p ps s e sentence)) (λ e. sentence-second p q ps s (sentence-empty q ps s e sentence)) (and_cases (is_never_empty p) (is_never_empty q) empty)
   sentence-empty (maybe p) ps s empty sentence = sentence-left_out p ps s sentence
   sentence-empty (many p) ps s empty sentence = sentence-no_more p ps s sentence
   sentence-empty (opened c n) ps s empty sentence = none-true true empty refl
@@ -201,7 +201,7 @@ module _ (rules : Rules) where
       let is = ends-prefix p ps ends in
       sentence-empty p ps [] is.0 (none-sentence ps is.1)
 
--- Each list of decided parts has a sentence.
+-- Each list of LL(1) parts has a sentence.
 
 module _ (rules : Rules) (follow : ℕ → List ℕ) (good : AreGood rules follow) where
   abbrev HasSentence : List Part → Type 0
@@ -210,48 +210,48 @@ module _ (rules : Rules) (follow : ℕ → List ℕ) (good : AreGood rules follo
   abbrev a_token : ℕ → Tok
   a_token c = record { letter = c; bytes = []; number = 0 }
 
-  one-filled : (c : List ℕ) (ps : List Part) → is_some c ≡ true → HasSentence ps → HasSentence (one c ∷ ps)
-  one-filled [] ps some have = none-true false refl some
-  one-filled (x ∷ c) ps some have = (a_token x ∷ have.0, sentence-one rules (x ∷ c) (a_token x) ps have.0 (has-first x c) have.1)
+  one-never_empty : (c : List ℕ) (ps : List Part) → is_some c ≡ true → HasSentence ps → HasSentence (one c ∷ ps)
+  one-never_empty [] ps some have = none-true false refl some
+  one-never_empty (x ∷ c) ps some have = (a_token x ∷ have.0, sentence-one rules (x ∷ c) (a_token x) ps have.0 (has-first x c) have.1)
 
   -- without a rule
-  easy-filled : (p : Part) (xs : List ℕ) (ps : List Part) → is_easy p ≡ true → is_decided follow xs p ≡ true → HasSentence ps → HasSentence (p ∷ ps)
-  easy-filled (one c) xs ps easy d have = one-filled c ps d have
-  easy-filled (both p q) xs ps easy d have =
+  easy-never_empty : (p : Part) (xs : List ℕ) (ps : List Part) → is_easy p ≡ true → is_ll1 follow xs p ≡ true → HasSentence ps → HasSentence (p ∷ ps)
+  easy-never_empty (one c) xs ps easy d have = one-never_empty c ps d have
+  easy-never_empty (both p q) xs ps easy d have =
       let parts = and_parts (is_easy p) (is_easy q) easy in
-      let ds = and_parts (is_decided follow (starts q xs) p) (is_decided follow xs q) d in
-      let rest = easy-filled p (starts q xs) (q ∷ ps) parts.0 ds.0 (easy-filled q xs ps parts.1 ds.1 have) in
+      let ds = and_parts (is_ll1 follow (first_set_before q xs) p) (is_ll1 follow xs q) d in
+      let rest = easy-never_empty p (first_set_before q xs) (q ∷ ps) parts.0 ds.0 (easy-never_empty q xs ps parts.1 ds.1 have) in
       (rest.0, sentence-both rules p q ps rest.0 rest.1)
-  easy-filled (either p q) xs ps easy d have =
-      let ds = and-five (is_filled p) (is_filled q) (are_apart (own_starts p) (own_starts q)) (is_decided follow xs p) (is_decided follow xs q) d in
+  easy-never_empty (either p q) xs ps easy d have =
+      let ds = and-five (is_never_empty p) (is_never_empty q) (are_apart (first_set p) (first_set q)) (is_ll1 follow xs p) (is_ll1 follow xs q) d in
       ⊎_elim
-      (λ e. let rest = easy-filled p xs ps e ds.3 have in (rest.0, sentence-first rules p q ps rest.0 rest.1))
-      (λ e. let rest = easy-filled q xs ps e ds.4 have in (rest.0, sentence-second rules p q ps rest.0 rest.1))
+      (λ e. let rest = easy-never_empty p xs ps e ds.3 have in (rest.0, sentence-first rules p q ps rest.0 rest.1))
+      (λ e. let rest = easy-never_empty q xs ps e ds.4 have in (rest.0, sentence-second rules p q ps rest.0 rest.1))
       (or_cases (is_easy p) (is_easy q) easy)
-  easy-filled (maybe p) xs ps easy d have = (have.0, sentence-left_out rules p ps have.0 have.1)
-  easy-filled (many p) xs ps easy d have = (have.0, sentence-no_more rules p ps have.0 have.1)
-  easy-filled (opened c n) xs ps easy d have = none-true false refl easy
+  easy-never_empty (maybe p) xs ps easy d have = (have.0, sentence-left_out rules p ps have.0 have.1)
+  easy-never_empty (many p) xs ps easy d have = (have.0, sentence-no_more rules p ps have.0 have.1)
+  easy-never_empty (opened c n) xs ps easy d have = none-true false refl easy
 
-  rule-filled : (c : List ℕ) (n : ℕ) (ps : List Part) → is_some c ≡ true → HasSentence ps → HasSentence (opened c n ∷ ps)
-  rule-filled [] n ps some have = none-true false refl some
-  rule-filled (x ∷ c) n ps some have =
-      let rest = easy-filled (rules n) (follow n) ps (good.easy n) (good.decided n) have in
+  rule-never_empty : (c : List ℕ) (n : ℕ) (ps : List Part) → is_some c ≡ true → HasSentence ps → HasSentence (opened c n ∷ ps)
+  rule-never_empty [] n ps some have = none-true false refl some
+  rule-never_empty (x ∷ c) n ps some have =
+      let rest = easy-never_empty (rules n) (follow n) ps (good.easy n) (good.ll1 n) have in
       (a_token x ∷ rest.0, sentence-rule rules (x ∷ c) n (a_token x) ps rest.0 (has-first x c) rest.1)
 
-  part-filled : (p : Part) (xs : List ℕ) (ps : List Part) → is_decided follow xs p ≡ true → HasSentence ps → HasSentence (p ∷ ps)
-  part-filled (one c) xs ps d have = one-filled c ps d have
-  part-filled (both p q) xs ps d have =
-      let ds = and_parts (is_decided follow (starts q xs) p) (is_decided follow xs q) d in
-      let rest = part-filled p (starts q xs) (q ∷ ps) ds.0 (part-filled q xs ps ds.1 have) in
+  part-never_empty : (p : Part) (xs : List ℕ) (ps : List Part) → is_ll1 follow xs p ≡ true → HasSentence ps → HasSentence (p ∷ ps)
+  part-never_empty (one c) xs ps d have = one-never_empty c ps d have
+  part-never_empty (both p q) xs ps d have =
+      let ds = and_parts (is_ll1 follow (first_set_before q xs) p) (is_ll1 follow xs q) d in
+      let rest = part-never_empty p (first_set_before q xs) (q ∷ ps) ds.0 (part-never_empty q xs ps ds.1 have) in
       (rest.0, sentence-both rules p q ps rest.0 rest.1)
-  part-filled (either p q) xs ps d have =
-      let ds = and-five (is_filled p) (is_filled q) (are_apart (own_starts p) (own_starts q)) (is_decided follow xs p) (is_decided follow xs q) d in
-      let rest = part-filled p xs ps ds.3 have in
+  part-never_empty (either p q) xs ps d have =
+      let ds = and-five (is_never_empty p) (is_never_empty q) (are_apart (first_set p) (first_set q)) (is_ll1 follow xs p) (is_ll1 follow xs q) d in
+      let rest = part-never_empty p xs ps ds.3 have in
       (rest.0, sentence-first rules p q ps rest.0 rest.1)
-  part-filled (maybe p) xs ps d have = (have.0, sentence-left_out rules p ps have.0 have.1)
-  part-filled (many p) xs ps d have = (have.0, sentence-no_more rules p ps have.0 have.1)
-  part-filled (opened c n) xs ps d have = rule-filled c n ps (and_parts (is_some c) (all_in xs (follow n)) d).0 have
+  part-never_empty (maybe p) xs ps d have = (have.0, sentence-left_out rules p ps have.0 have.1)
+  part-never_empty (many p) xs ps d have = (have.0, sentence-no_more rules p ps have.0 have.1)
+  part-never_empty (opened c n) xs ps d have = rule-never_empty c n ps (and_parts (is_some c) (all_in xs (follow n)) d).0 have
 
-  pub have-sentence : (ps : List Part) → AreDecided follow ps → HasSentence ps
+  pub have-sentence : (ps : List Part) → AreLL1 follow ps → HasSentence ps
   have-sentence [] d = ([], ([], at_end))
-  have-sentence (p ∷ ps) d = part-filled p (all_starts ps) ps d.0 (have-sentence ps d.1)
+  have-sentence (p ∷ ps) d = part-never_empty p (first_set_of_all ps) ps d.0 (have-sentence ps d.1)

@@ -2,7 +2,7 @@
 use Rattle.std.proofs.Common.{◌≡◌, ℕ, false, List, [], ◌∷◌, map, Some, None, refl}
 use Rattle.tb_token.specs.grammar.Grammar.{Tok, Part, one, both, either, many, opened, Rules, row}
 use Rattle.tb_token.specs.grammar.Reading.{read}
-use Rattle.tb_token.specs.grammar.Decided.{is_decided, AreDecided, AreGood}
+use Rattle.tb_token.specs.grammar.LL1.{is_ll1, AreLL1, AreGood}
 
 -- the letters 1 `(`, 2 `)`, 3 `,`, 4 `a`
 abbrev nested : Part
@@ -18,10 +18,10 @@ abbrev follow : ℕ → List ℕ
 follow n = 2 ∷ 3 ∷ []
 
 pub rules-good : AreGood rules follow
-rules-good = record { decided = λ n. refl; easy = λ n. refl }
+rules-good = record { ll1 = λ n. refl; easy = λ n. refl }
 
-pub nested-decided : AreDecided follow (nested ∷ [])
-nested-decided = (refl, tt)
+pub nested-ll1 : AreLL1 follow (nested ∷ [])
+nested-ll1 = (refl, tt)
 
 abbrev toks : List ℕ → List Tok
 toks letters = map (λ x. record { letter = x; bytes = []; number = 0 }) letters
@@ -38,6 +38,6 @@ read-wrong = refl
 pub read-early : read rules (toks (1 ∷ 4 ∷ 3 ∷ [])) (Some (nested ∷ [])) ≡ Some 0
 read-early = refl
 
--- a choice of two parts that begin alike is not decided
-pub alike-undecided : is_decided follow [] (either (both (one (4 ∷ [])) (one (3 ∷ []))) (one (4 ∷ []))) ≡ false
-alike-undecided = refl
+-- a choice of two parts that begin alike is not LL(1)
+pub alike-not_ll1 : is_ll1 follow [] (either (both (one (4 ∷ [])) (one (3 ∷ []))) (one (4 ∷ []))) ≡ false
+alike-not_ll1 = refl

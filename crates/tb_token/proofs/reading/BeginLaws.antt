@@ -1,7 +1,7 @@
 -- What a part begins with, by whether it may be empty.
 use Rattle.std.proofs.Common.{◌≡◌, ℕ, Bool, true, false, not, ◌&&◌, ◌||◌, ap, sym, ◌∙◌, refl}
 use Rattle.tb_token.specs.grammar.Grammar.{Part, one, both, either, maybe, many, opened, has}
-use Rattle.tb_token.specs.grammar.Reading.{is_filled}
+use Rattle.tb_token.specs.grammar.Reading.{is_never_empty}
 use Rattle.tb_token.specs.reading.Machine.{begins_by}
 
 or-none : (a : Bool) → a ≡ (a || false)
@@ -32,31 +32,31 @@ in_option false false true = refl
 in_option false false false = refl
 
 -- What stands behind a part matters where the part may be empty.
-pub begins-behind : (p : Part) (x : ℕ) (c : Bool) → begins_by p x c ≡ (begins_by p x false || (not (is_filled p) && c))
+pub begins-behind : (p : Part) (x : ℕ) (c : Bool) → begins_by p x c ≡ (begins_by p x false || (not (is_never_empty p) && c))
 begins-behind (one l) x c = or-none (has l x)
 begins-behind (both p q) x c =
     let alone = begins-behind p x (begins_by q x false) in
     let last = begins-behind q x c in
     let whole = begins-behind p x (begins_by q x c) in
-    rw (whole, alone, last) (in_turn (begins_by p x false) (is_filled p) (begins_by q x false) (is_filled q) c)
+    rw (whole, alone, last) (in_turn (begins_by p x false) (is_never_empty p) (begins_by q x false) (is_never_empty q) c)
 begins-behind (either p q) x c =
     let one_is = begins-behind p x c in
     let two_is = begins-behind q x c in
-    rw (one_is, two_is) (in_choice (begins_by p x false) (is_filled p) (begins_by q x false) (is_filled q) c)
+    rw (one_is, two_is) (in_choice (begins_by p x false) (is_never_empty p) (begins_by q x false) (is_never_empty q) c)
 begins-behind (maybe p) x c =
     let one_is = begins-behind p x c in
-    rw one_is (in_option (begins_by p x false) (is_filled p) c)
+    rw one_is (in_option (begins_by p x false) (is_never_empty p) c)
 begins-behind (many p) x c =
     let one_is = begins-behind p x c in
-    rw one_is (in_option (begins_by p x false) (is_filled p) c)
+    rw one_is (in_option (begins_by p x false) (is_never_empty p) c)
 begins-behind (opened l n) x c = or-none (has l x)
 
 module _ (p q : Part) (x : ℕ) (c : Bool) where
   pub begins-first : begins_by p x false ≡ true → begins_by (both p q) x c ≡ true
   begins-first e = rw (begins-behind p x (begins_by q x c), e) refl
 
-  pub begins-second : begins_by p x false ≡ false → is_filled p ≡ false → begins_by (both p q) x c ≡ begins_by q x c
+  pub begins-second : begins_by p x false ≡ false → is_never_empty p ≡ false → begins_by (both p q) x c ≡ begins_by q x c
   begins-second e f = rw (begins-behind p x (begins_by q x c), e, f) refl
 
-  pub begins-neither : begins_by p x false ≡ false → is_filled p ≡ true → begins_by (both p q) x c ≡ false
+  pub begins-neither : begins_by p x false ≡ false → is_never_empty p ≡ true → begins_by (both p q) x c ≡ false
   begins-neither e f = rw (begins-behind p x (begins_by q x c), e, f) refl

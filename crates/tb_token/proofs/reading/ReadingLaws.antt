@@ -15,9 +15,9 @@ module _ (rules : Rules) (p : Part) (s : List Tok) where
   Going at ps = read rules (drop at s) (Some ps) ≡ read rules s (Some (p ∷ []))
 
   wrong-at : (left k : ℕ) → read rules s (Some (p ∷ [])) ≡ Some left → left ≤ length s → length s + 1 ≡ k + left → IsFirstWrong rules p s (Some k)
-  wrong-at left k e few size follow good decided =
+  wrong-at left k e few size follow good ll1 =
       let same : length s - left + 1 ≡ k = omega arith in
-      rw same at (read-wrong rules follow good s (p ∷ []) left decided e)
+      rw same at (read-wrong rules follow good s (p ∷ []) left ll1 e)
 
   module _ (at : ℕ) (ps : List Part) (going : Going at ps) (within : at < length s) (t : Tok) (is : t ≡ get_or s at t) (x : ℕ) (letter : x ≡ t.letter) where
     here : drop at s ≡ t ∷ drop (at + 1) s
@@ -40,7 +40,7 @@ module _ (rules : Rules) (p : Part) (s : List Tok) where
     read-end = rw (drop_all at s past) at going
 
     pub sentence-end : may_end ps ≡ true → IsFirstWrong rules p s None
-    sentence-end e follow good decided = read-sentence rules follow good s (p ∷ []) (sym read-end ∙ ap (λ b. cond b None (Some 0)) e)
+    sentence-end e follow good ll1 = read-sentence rules follow good s (p ∷ []) (sym read-end ∙ ap (λ b. cond b None (Some 0)) e)
 
     pub wrong-end : may_end ps ≡ false → IsFirstWrong rules p s (Some (length s + 1))
     wrong-end e = wrong-at 0 (length s + 1) (sym read-end ∙ ap (λ b. cond b None (Some 0)) e) (omega arith) (omega arith)

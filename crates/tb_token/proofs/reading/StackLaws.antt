@@ -2,7 +2,7 @@
 use Rattle.std.proofs.Common.{◌≡◌, ℕ, true, false, cond, ◌&&◌, List, [], ◌∷◌, ◌++◌, Some, None, sym, ap, ◌∙◌}
 use Rattle.std.specs.Borrow.{Bor}
 use Rattle.tb_token.specs.grammar.Grammar.{Rules}
-use Rattle.tb_token.specs.grammar.Reading.{is_filled, may_end, after}
+use Rattle.tb_token.specs.grammar.Reading.{is_never_empty, may_end, after}
 use Rattle.tb_token.specs.reading.View.{part_of}
 use Rattle.tb_token.specs.reading.Machine.{step}
 use Rattle.tb_token.specs.reading.Stack.{parts_in, HasTaken}
@@ -25,8 +25,8 @@ module _ (rules : Rules) (x : ℕ) (old popped now : List (Bor Part)) (p : Bor P
   gone-stuck is = after-top ∙ ap (λ s. behind s (parts_in popped) (after rules (parts_in popped) x)) is
 
 module _ (old popped : List (Bor Part)) (p : Bor Part) (pop : old ≡ popped ++ p ∷ []) where
-  pub may_end-filled : is_filled (part_of p.now) ≡ true → may_end (parts_in old) ≡ false
-  may_end-filled e = ap may_end (ap parts_in pop ∙ parts_in-push popped p) ∙ ap (λ b. cond b false true && may_end (parts_in popped)) e
+  pub may_end-never_empty : is_never_empty (part_of p.now) ≡ true → may_end (parts_in old) ≡ false
+  may_end-never_empty e = ap may_end (ap parts_in pop ∙ parts_in-push popped p) ∙ ap (λ b. cond b false true && may_end (parts_in popped)) e
 
-  pub may_end-empty : is_filled (part_of p.now) ≡ false → may_end (parts_in popped) ≡ may_end (parts_in old)
+  pub may_end-empty : is_never_empty (part_of p.now) ≡ false → may_end (parts_in popped) ≡ may_end (parts_in old)
   may_end-empty e = sym (ap may_end (ap parts_in pop ∙ parts_in-push popped p) ∙ ap (λ b. cond b false true && may_end (parts_in popped)) e)

@@ -3,7 +3,7 @@ use Rattle.std.proofs.Common.{◌≡◌, ℕ, Bool, true, false, cond, ◌||◌,
 use Rattle.std.specs.Borrow.{Bor}
 use Rattle.tb_token.specs.grammar.Grammar as grammar
 use Rattle.tb_token.specs.grammar.Grammar.{one, both, either, maybe, many, opened, has, Rules}
-use Rattle.tb_token.specs.grammar.Reading.{starts, own_starts, takes}
+use Rattle.tb_token.specs.grammar.Reading.{first_set_before, first_set, takes}
 use Rattle.tb_token.specs.reading.View.{part_of}
 use Rattle.tb_token.specs.reading.Machine.{begins_by, Step, taken, passed, stuck, or_else, step}
 use Rattle.tb_token.specs.reading.Stack.{parts_in}
@@ -22,20 +22,20 @@ has-append (y ∷ xs) ys x = ap (λ b. y == x || b) (has-append xs ys x) ∙ by 
     by true b c = refl
     by false b c = refl
 
--- a part begins with the letter where it is among its starts
-pub begins-starts : (p : grammar.Part) (xs : List ℕ) (x : ℕ) → begins_by p x (has xs x) ≡ has (starts p xs) x
-begins-starts (one c) xs x = refl
-begins-starts (both p q) xs x = ap (λ b. begins_by p x b) (begins-starts q xs x) ∙ begins-starts p (starts q xs) x
-begins-starts (either p q) xs x =
-    let one_is = begins-starts p xs x in
-    let two_is = begins-starts q xs x in
-    rw (one_is, two_is) (sym (has-append (starts p xs) (starts q xs) x))
-begins-starts (maybe p) xs x = rw (begins-starts p xs x) (sym (has-append (starts p xs) xs x))
-begins-starts (many p) xs x = rw (begins-starts p xs x) (sym (has-append (starts p xs) xs x))
-begins-starts (opened c n) xs x = refl
+-- a part begins with the letter where it is in its FIRST
+pub begins-first_set_before : (p : grammar.Part) (xs : List ℕ) (x : ℕ) → begins_by p x (has xs x) ≡ has (first_set_before p xs) x
+begins-first_set_before (one c) xs x = refl
+begins-first_set_before (both p q) xs x = ap (λ b. begins_by p x b) (begins-first_set_before q xs x) ∙ begins-first_set_before p (first_set_before q xs) x
+begins-first_set_before (either p q) xs x =
+    let one_is = begins-first_set_before p xs x in
+    let two_is = begins-first_set_before q xs x in
+    rw (one_is, two_is) (sym (has-append (first_set_before p xs) (first_set_before q xs) x))
+begins-first_set_before (maybe p) xs x = rw (begins-first_set_before p xs x) (sym (has-append (first_set_before p xs) xs x))
+begins-first_set_before (many p) xs x = rw (begins-first_set_before p xs x) (sym (has-append (first_set_before p xs) xs x))
+begins-first_set_before (opened c n) xs x = refl
 
-begins-own : (p : grammar.Part) (x : ℕ) → begins_by p x false ≡ has (own_starts p) x
-begins-own p x = begins-starts p [] x
+begins-first_set : (p : grammar.Part) (x : ℕ) → begins_by p x false ≡ has (first_set p) x
+begins-first_set p x = begins-first_set_before p [] x
 
 -- what is still to come behind a step
 abbrev pub behind : Step → List grammar.Part → Option (List grammar.Part) → Option (List grammar.Part)
@@ -64,11 +64,11 @@ module _ (rules : Rules) (x : ℕ) where
   step-takes (either p q) ps other =
       let one_is = step-takes p ps other in
       let two_is = step-takes q ps other in
-      behind-cond (begins_by p x false) (step rules p x) (step rules q x) ps other ∙ rw (one_is, two_is, begins-own p x) refl
+      behind-cond (begins_by p x false) (step rules p x) (step rules q x) ps other ∙ rw (one_is, two_is, begins-first_set p x) refl
   step-takes (maybe p) ps other =
       let one_is = step-takes p ps other in
-      behind-cond (begins_by p x false) (step rules p x) passed ps other ∙ rw (one_is, begins-own p x) refl
+      behind-cond (begins_by p x false) (step rules p x) passed ps other ∙ rw (one_is, begins-first_set p x) refl
   step-takes (many p) ps other =
       let one_is = behind-or (step rules p x) stuck (many p) ps other ∙ step-takes p (many p ∷ ps) None in
-      behind-cond (begins_by p x false) (or_else (step rules p x) (many p) stuck) passed ps other ∙ rw (one_is, begins-own p x) refl
+      behind-cond (begins_by p x false) (or_else (step rules p x) (many p) stuck) passed ps other ∙ rw (one_is, begins-first_set p x) refl
   step-takes (opened c n) ps other = behind-cond (has c x) (taken (rules n ∷ [])) stuck ps other

@@ -4,20 +4,20 @@ use Rattle.tb_token.specs.grammar.Grammar.{Tok, Part, Rules}
 use Rattle.tb_token.specs.grammar.Sentences.{Tree, Derives, AreSentence, IsWrongAt}
 use Rattle.tb_token.specs.grammar.Reading.{read}
 use Rattle.tb_token.specs.grammar.Places.{Stands, Stops}
-use Rattle.tb_token.specs.grammar.Decided.{AreDecided, AreGood}
+use Rattle.tb_token.specs.grammar.LL1.{AreLL1, AreGood}
 
 -- a list of tokens has one tree at most
 abbrev pub HaveOneTree : Type 0
 HaveOneTree =
     (rules : Rules) (follow : ℕ → List ℕ) (ps : List Part) (s : List Tok) (vs ws : List Tree)
-    → AreGood rules follow → AreDecided follow ps
+    → AreGood rules follow → AreLL1 follow ps
     → Derives rules ps vs s → Derives rules ps ws s → vs ≡ ws
 
 -- the reading comes to the end of a sentence alone, and else stops at the token where the list is wrong
 abbrev pub ReadingIsRight : Type 0
 ReadingIsRight =
     (rules : Rules) (follow : ℕ → List ℕ) (ps : List Part) (s : List Tok)
-    → AreGood rules follow → AreDecided follow ps
+    → AreGood rules follow → AreLL1 follow ps
     → (read rules s (Some ps) ≡ None → AreSentence rules ps s)
     × ((left : ℕ) → read rules s (Some ps) ≡ Some left → IsWrongAt rules ps s (length s - left + 1))
 
@@ -39,4 +39,4 @@ pub record PlacesAreRight (rules : Rules) (p : Part) (s : List Tok) : Type 0 whe
 abbrev pub ReadersAreRight : Type 0
 ReadersAreRight =
     (rules : Rules) (follow : ℕ → List ℕ) (p : Part) (s : List Tok)
-    → AreGood rules follow → AreDecided follow (p ∷ []) → PlacesAreRight rules p s
+    → AreGood rules follow → AreLL1 follow (p ∷ []) → PlacesAreRight rules p s

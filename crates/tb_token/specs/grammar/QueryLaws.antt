@@ -2,7 +2,7 @@
 use Rattle.std.specs.Prelude.{◌≡◌, ◌↔◌, List, [], ◌∷◌}
 use Rattle.tb_token.specs.grammar.Grammar.{Tok, Part}
 use Rattle.tb_token.specs.grammar.Sentences.{Tree, Derives, AreSentence}
-use Rattle.tb_token.specs.grammar.Decided.{AreDecided, AreGood}
+use Rattle.tb_token.specs.grammar.LL1.{AreLL1, AreGood}
 use Rattle.tb_token.specs.grammar.Patterns.{match_query}
 use Rattle.tb_token.specs.grammar.Paths.{path, written_path}
 use Rattle.tb_token.specs.grammar.Queries.{rules, follow, query}
@@ -10,8 +10,8 @@ use Rattle.tb_token.specs.grammar.Queries.{rules, follow, query}
 -- one token of look-ahead decides queries, and those of `MATCH` alone
 pub record IsReadable : Type 0 where
   pub good : AreGood rules follow
-  pub queries : AreDecided follow (query ∷ [])
-  pub matches : AreDecided follow (match_query ∷ [])
+  pub queries : AreLL1 follow (query ∷ [])
+  pub matches : AreLL1 follow (match_query ∷ [])
 
 -- tokens are read as one query at most
 abbrev pub AreOneQuery : Type 0

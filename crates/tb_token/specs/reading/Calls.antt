@@ -3,7 +3,7 @@ use Rattle.std.specs.Prelude.{◌≡◌, ℕ, List, [], ◌∷◌, Option, Some,
 use Rattle.tb_token.specs.grammar.Grammar as grammar
 use Rattle.tb_token.specs.grammar.Grammar.{Tok, Rules}
 use Rattle.tb_token.specs.grammar.Sentences.{AreSentence, IsWrongAt}
-use Rattle.tb_token.specs.grammar.Decided.{AreDecided, AreGood}
+use Rattle.tb_token.specs.grammar.LL1.{AreLL1, AreGood}
 use Rattle.tb_token.specs.reading.View.{part_of, rules_of}
 use Rattle.tb_token.specs.declared.reader.part.Grammar.{Grammar}
 
@@ -15,7 +15,7 @@ FirstWrong rules p s (Some k) = IsWrongAt rules (p ∷ []) s k
 -- so it is wherever the next letter decides
 abbrev pub IsFirstWrong : Rules → grammar.Part → List Tok → Option ℕ → Type 0
 IsFirstWrong rules p s wrong =
-    (follow : ℕ → List ℕ) → AreGood rules follow → AreDecided follow (p ∷ [])
+    (follow : ℕ → List ℕ) → AreGood rules follow → AreLL1 follow (p ∷ [])
     → FirstWrong rules p s wrong
 
 -- the value is these rules with this part to start from

@@ -1,7 +1,7 @@
 //! Grammars as data.
 
 ghost use Rattle.std.specs.Prelude.{◌≡◌};
-ghost use Rattle.tb_token.specs.grammar.Reading.{is_filled};
+ghost use Rattle.tb_token.specs.grammar.Reading.{is_never_empty};
 ghost use Rattle.tb_token.specs.reading.View.{part_of, rules_of};
 ghost use Rattle.tb_token.specs.reading.Machine.{begins_by};
 
@@ -53,7 +53,8 @@ pub fn begins(part: &Part, letter: u8, behind: bool) -> bool
     match part {
         Part::One(letters) => has(letters, letter),
         Part::Both(first, second) => {
-            begins(first, letter, false) || (!is_filled(first) && begins(second, letter, behind))
+            begins(first, letter, false)
+                || (!is_never_empty(first) && begins(second, letter, behind))
         }
         Part::Either(first, second) => {
             begins(first, letter, behind) || begins(second, letter, behind)
@@ -65,13 +66,13 @@ pub fn begins(part: &Part, letter: u8, behind: bool) -> bool
 }
 
 /// Whether each sentence of the part has a token.
-pub fn is_filled(part: &Part) -> bool
-    ensures { result ≡ is_filled (part_of part.now) }
+pub fn is_never_empty(part: &Part) -> bool
+    ensures { result ≡ is_never_empty (part_of part.now) }
 {
     match part {
         Part::One(_) => true,
-        Part::Both(first, second) => is_filled(first) || is_filled(second),
-        Part::Either(first, second) => is_filled(first) && is_filled(second),
+        Part::Both(first, second) => is_never_empty(first) || is_never_empty(second),
+        Part::Either(first, second) => is_never_empty(first) && is_never_empty(second),
         Part::Maybe(_) => false,
         Part::Many(_) => false,
         Part::Opened(_, _) => true,

@@ -5,7 +5,7 @@ ghost use Rattle.tb_token.specs.grammar.Reading.{may_end};
 ghost use Rattle.tb_token.specs.reading.View.{rules_of};
 ghost use Rattle.tb_token.specs.reading.Stack.{parts_in, HaveGone};
 
-use crate::reader::part::{Grammar, Part, is_filled};
+use crate::reader::part::{Grammar, Part, is_never_empty};
 use crate::reader::take::{Took, take};
 use std::alloc::AllocError;
 
@@ -32,7 +32,7 @@ pub fn may_end<'g>(stack: &mut Vec<&'g Part<'g>>) -> bool
     ensures { result ≡ may_end (parts_in stack.old.items) }
 {
     'parts: while let Some(part) = stack.pop() {
-        if is_filled(part) {
+        if is_never_empty(part) {
             return false;
         }
     }

@@ -12,14 +12,14 @@ returns-then-begins t c =
     let past = begins-first (part_of c.in-Both.first.now) (part_of c.in-Both.second.now) c.args.letter c.args.behind (sym c.begins.ensures ∙ c.if-begins.true) in
     c.if-begins.true ∙ sym past ∙ ap (λ p. begins_by p c.args.letter c.args.behind) (sym whole)
 
-pub returns-then-not-is_filled : goal.returns-then-not-is_filled
-returns-then-not-is_filled t c =
+pub returns-then-not-is_never_empty : goal.returns-then-not-is_never_empty
+returns-then-not-is_never_empty t c =
     let whole = ap part_of c.in-Both.is ∙ part_of-Both c.in-Both.first c.in-Both.second in
-    let past = begins-second (part_of c.in-Both.first.now) (part_of c.in-Both.second.now) c.args.letter c.args.behind (sym c.begins.ensures ∙ c.if-begins.false) (sym c.is_filled.ensures ∙ c.if-not-is_filled.true) in
-    c.begins-then-not-is_filled.ensures ∙ sym past ∙ ap (λ p. begins_by p c.args.letter c.args.behind) (sym whole)
+    let past = begins-second (part_of c.in-Both.first.now) (part_of c.in-Both.second.now) c.args.letter c.args.behind (sym c.begins.ensures ∙ c.if-begins.false) (sym c.is_never_empty.ensures ∙ c.if-not-is_never_empty.true) in
+    c.begins-then-not-is_never_empty.ensures ∙ sym past ∙ ap (λ p. begins_by p c.args.letter c.args.behind) (sym whole)
 
-pub returns-else-not-is_filled : goal.returns-else-not-is_filled
-returns-else-not-is_filled t c =
+pub returns-else-not-is_never_empty : goal.returns-else-not-is_never_empty
+returns-else-not-is_never_empty t c =
     let whole = ap part_of c.in-Both.is ∙ part_of-Both c.in-Both.first c.in-Both.second in
-    let past = begins-neither (part_of c.in-Both.first.now) (part_of c.in-Both.second.now) c.args.letter c.args.behind (sym c.begins.ensures ∙ c.if-begins.false) (sym c.is_filled.ensures ∙ c.if-not-is_filled.false) in
-    ap not c.if-not-is_filled.false ∙ sym past ∙ ap (λ p. begins_by p c.args.letter c.args.behind) (sym whole)
+    let past = begins-neither (part_of c.in-Both.first.now) (part_of c.in-Both.second.now) c.args.letter c.args.behind (sym c.begins.ensures ∙ c.if-begins.false) (sym c.is_never_empty.ensures ∙ c.if-not-is_never_empty.false) in
+    ap not c.if-not-is_never_empty.false ∙ sym past ∙ ap (λ p. begins_by p c.args.letter c.args.behind) (sym whole)
