@@ -3,14 +3,14 @@ use Rattle.std.proofs.Common.{◌≡◌, ◌==◌, ℕ, Bool, true, false, not, 
 use Rattle.std.specs.List.{list_any}
 use Rattle.std.specs.Str.{bytes_eq}
 use Rattle.tb_token.specs.grammar.Grammar.{Tok}
-use Rattle.tb_token.specs.tokens.LetterNames as letters
+use Rattle.tb_token.specs.tokens.TerminalNames as terminals
 use Rattle.tb_flwor.specs.Constructors.{is_named, repeated_in}
 use Rattle.tb_flwor.specs.Started.{is_repeated, attributes_behind}
 use Rattle.tb_flwor.specs.Borrowed.{AreAlike}
 use Rattle.tb_flwor.proofs.NameLaws.{alike-behind}
 
 -- an attribute's name
-module _ (names : List (List ℕ)) (t : Tok) (s : List Tok) (within : (t.letter == letters.LESS) ≡ false) (named : is_named s ≡ true) where
+module _ (names : List (List ℕ)) (t : Tok) (s : List Tok) (within : (t.terminal == terminals.LESS) ≡ false) (named : is_named s ≡ true) where
   pub repeated-named : is_repeated names t s ≡ list_any (bytes_eq t.bytes) names
   repeated-named = rw (within, named) refl
 
@@ -26,7 +26,7 @@ repeated-alike (t ∷ s) some others alike =
     rw (among, more, same) refl
 
 next-step : (opens named old : Bool) (names : List (List ℕ)) (t : Tok) (s : List Tok)
-    → (t.letter == letters.LESS) ≡ opens → is_named s ≡ named → list_any (bytes_eq t.bytes) names ≡ old
+    → (t.terminal == terminals.LESS) ≡ opens → is_named s ≡ named → list_any (bytes_eq t.bytes) names ≡ old
     → (not opens && (named && old)) ≡ false
     → repeated_in (attributes_behind names t s) s ≡ repeated_in names (t ∷ s)
 next-step true named old names t s e f g new = rw e refl
@@ -39,4 +39,4 @@ pub repeated-next : (names behind : List (List ℕ)) (t : Tok) (s : List Tok) �
     → AreAlike behind (attributes_behind names t s) → repeated_in behind s ≡ repeated_in names (t ∷ s)
 repeated-next names behind t s new alike =
     repeated-alike s behind (attributes_behind names t s) alike
-    ∙ next-step (t.letter == letters.LESS) (is_named s) (list_any (bytes_eq t.bytes) names) names t s refl refl refl new
+    ∙ next-step (t.terminal == terminals.LESS) (is_named s) (list_any (bytes_eq t.bytes) names) names t s refl refl refl new

@@ -9,11 +9,11 @@ use Rattle.tb_token.specs.grammar.Terminals.{keyword, list_of}
 use Rattle.tb_token.specs.grammar.Patterns.{cmp, literal}
 use Rattle.tb_token.specs.grammar.Paths.{operand}
 use Rattle.tb_token.specs.grammar.Queries.{rules, cond, where_part}
-use Rattle.tb_token.specs.tokens.LetterNames as letters
+use Rattle.tb_token.specs.tokens.TerminalNames as terminals
 use Rattle.tb_pattern.specs.Value.{op_of}
 use Rattle.tb_pattern.specs.Building.{next, begins, Come, IsBuilt, Builds, BuildsApart}
 use Rattle.tb_pattern.specs.BuiltParts.{IsLiteral}
-use Rattle.tb_pattern.proofs.BuildingLaws.{some-none, come-next, come-as, wrong-letter, one-builds, Both, both-builds, builds-as, put_in-builds, left_out-builds, First, first-builds}
+use Rattle.tb_pattern.proofs.BuildingLaws.{some-none, come-next, come-as, wrong-terminal, one-builds, Both, both-builds, builds-as, put_in-builds, left_out-builds, First, first-builds}
 use Rattle.tb_pattern.proofs.CondLaws.{cmp-minus}
 use Rattle.tb_pattern.specs.declared.cond.Literal.{Literal}
 use Rattle.tb_query.specs.declared.operand.Comparison.{Comparison}
@@ -27,18 +27,18 @@ use Rattle.tb_flwor.proofs.RunLaws.{ListSoFar, list-start, behind-next, behind-e
 abbrev Next : List Tok → Tree → Type 0
 Next s v = v ≡ next s
 
-abbrev operand_letters : List ℕ
-operand_letters = first_set operand
+abbrev operand_terminals : List ℕ
+operand_terminals = first_set operand
 
 module _ (names : Names) where
-  pub right-operand : (is : Operand) (s left : List Tok) → begins operand_letters s ≡ true → Builds operand (IsOperand names is) s left
+  pub right-operand : (is : Operand) (s left : List Tok) → begins operand_terminals s ≡ true → Builds operand (IsOperand names is) s left
       → BuildsApart (either operand literal) (IsRight names (right.Operand is)) s left
   right-operand is s left e operand_is ps come =
       builds-as (either operand literal) (First (IsOperand names is)) (IsRight names (right.Operand is)) s left
       (λ v f. ap (right_of names) f.first_is ∙ ap right.Operand f.one_is)
       (first-builds operand literal (IsOperand names is) s left e operand_is) ps false come
 
-  pub right-literal : (is : Literal) (s left : List Tok) → begins operand_letters s ≡ false → BuildsApart literal (IsLiteral is) s left
+  pub right-literal : (is : Literal) (s left : List Tok) → begins operand_terminals s ≡ false → BuildsApart literal (IsLiteral is) s left
       → BuildsApart (either operand literal) (IsRight names (right.Literal is)) s left
   right-literal is [] left e literal_is ps come = some-none come.parts
   right-literal is (t ∷ u) left e literal_is ps come =
@@ -61,13 +61,13 @@ module _ (names : Names) where
 
   with-builds : (is : Right) (s left : List Tok) → BuildsApart (either operand literal) (IsRight names is) (drop 1 s) left → Builds with (Compared s is) s left
   with-builds is [] left right_is ps minus come = some-none come.parts
-  with-builds is (t ∷ u) left right_is ps minus come = by (has letters.COMPARISONS t.letter) refl
+  with-builds is (t ∷ u) left right_is ps minus come = by (has terminals.COMPARISONS t.terminal) refl
     where
-      by : (here : Bool) → has letters.COMPARISONS t.letter ≡ here → IsBuilt with (Compared (t ∷ u) is) ps (t ∷ u) left
+      by : (here : Bool) → has terminals.COMPARISONS t.terminal ≡ here → IsBuilt with (Compared (t ∷ u) is) ps (t ∷ u) left
       by true h =
-          let reads = read-both rules cmp (either operand literal) (t ∷ u) ps ∙ read-one rules letters.COMPARISONS t u (either operand literal ∷ ps) h in
+          let reads = read-both rules cmp (either operand literal) (t ∷ u) ps ∙ read-one rules terminals.COMPARISONS t u (either operand literal ∷ ps) h in
           let behind = come-next minus (with ∷ ps) (either operand literal ∷ ps) t u come reads in
-          let apart : Come false (either operand literal ∷ ps) u = rw (cmp-minus t.letter h) at behind in
+          let apart : Come false (either operand literal ∷ ps) u = rw (cmp-minus t.terminal h) at behind in
           let b = right_is ps apart in
           record {
             minus = b.minus;
@@ -76,7 +76,7 @@ module _ (names : Names) where
             is = record { one = leaf t; two = b.tree; pair_is = refl; one_is = refl; two_is = b.is };
             derived = λ vs d. by_both (by_one h (b.derived vs d));
           }
-      by false h = wrong-letter letters.COMPARISONS t u (either operand literal ∷ ps) h (sym (read-both rules cmp (either operand literal) (t ∷ u) ps) ∙ come.parts)
+      by false h = wrong-terminal terminals.COMPARISONS t u (either operand literal ∷ ps) h (sym (read-both rules cmp (either operand literal) (t ∷ u) ps) ∙ come.parts)
 
   -- a comparison of these
   abbrev compared : Operand → List Tok → Right → Comparison
@@ -92,11 +92,11 @@ module _ (names : Names) where
 
   -- Conditions behind the keyword WHERE.
 
-  abbrev and_letter : List ℕ
-  and_letter = letters.AND ∷ []
+  abbrev and_terminal : List ℕ
+  and_terminal = terminals.AND ∷ []
 
-  abbrev where_letter : List ℕ
-  where_letter = letters.WHERE ∷ []
+  abbrev where_terminal : List ℕ
+  where_terminal = terminals.WHERE ∷ []
 
   abbrev other_cond : Part
   other_cond = both (keyword (codes "AND")) cond
@@ -107,16 +107,16 @@ module _ (names : Names) where
   pub conds-start : (old : List Comparison) (s : List Tok) → CondsSoFar old old s s
   conds-start old s = list-start other_cond (more_conds names) old s
 
-  pub conds-next : (old found : List Comparison) (is : Comparison) (s mid left : List Tok) → begins and_letter mid ≡ true → CondsSoFar old found s mid
+  pub conds-next : (old found : List Comparison) (is : Comparison) (s mid left : List Tok) → begins and_terminal mid ≡ true → CondsSoFar old found s mid
       → Builds cond (Gives (cond_from names) is) (drop 1 mid) left → length left ≤ length (drop 1 mid) → CondsSoFar old (found ++ is ∷ []) s left
   conds-next old found is s mid left e far gives shorter =
-      behind-next cond (cond_from names) (more_conds names) and_letter old found is s mid left (λ a v w. refl) e far gives shorter
+      behind-next cond (cond_from names) (more_conds names) and_terminal old found is s mid left (λ a v w. refl) e far gives shorter
 
   module _ (is : Comparison) (found : List Comparison) (s mid left : List Tok) where
     abbrev Listed : Tree → Type 0
     Listed = Both (Gives (cond_from names) is) (λ v. is ∷ more_conds names v ≡ found)
 
-    pub conds-end : begins where_letter s ≡ true → begins and_letter left ≡ false → Builds cond (Gives (cond_from names) is) (drop 1 s) mid
+    pub conds-end : begins where_terminal s ≡ true → begins and_terminal left ≡ false → Builds cond (Gives (cond_from names) is) (drop 1 s) mid
         → CondsSoFar (is ∷ []) found mid left → Builds (maybe where_part) (AreConds names found) s left
     conds-end e f gives far =
         put_in-builds where_part (AreConds names found) s left e
@@ -124,8 +124,8 @@ module _ (names : Names) where
         (λ v b.
         let l = b.two_is in
         ap (conds_of names) (b.pair_is ∙ ap (λ x. pair b.one x) l.pair_is) ∙ l.one_is (more_conds names l.two) ∙ l.two_is)
-        (both-builds (keyword (codes "WHERE")) (list_of (keyword (codes "AND")) cond) (Next s) Listed s (drop 1 s) left (one-builds where_letter s)
-        (behind-end cond (cond_from names) (more_conds names) and_letter is found (drop 1 s) mid left refl f gives far)))
+        (both-builds (keyword (codes "WHERE")) (list_of (keyword (codes "AND")) cond) (Next s) Listed s (drop 1 s) left (one-builds where_terminal s)
+        (behind-end cond (cond_from names) (more_conds names) and_terminal is found (drop 1 s) mid left refl f gives far)))
 
-  pub conds-none : (s : List Tok) → begins where_letter s ≡ false → Builds (maybe where_part) (AreConds names []) s s
+  pub conds-none : (s : List Tok) → begins where_terminal s ≡ false → Builds (maybe where_part) (AreConds names []) s s
   conds-none s e = builds-as (maybe where_part) (λ v. v ≡ nothing) (AreConds names []) s s (λ v f. ap (conds_of names) f) (left_out-builds where_part s e)

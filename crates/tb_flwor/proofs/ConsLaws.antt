@@ -3,12 +3,12 @@ use Rattle.std.proofs.Common.{◌≡◌, ℕ, true, false, ◌-◌, ◌≤◌, L
 use Rattle.std.specs.Prelude.{codes}
 use Rattle.tb_token.specs.grammar.Grammar.{Tok, Part, both, either, many}
 use Rattle.tb_token.specs.grammar.Sentences.{Tree, nothing, pair, second}
-use Rattle.tb_token.specs.tokens.Letters.{letter_of}
+use Rattle.tb_token.specs.tokens.Lexemes.{terminal_of}
 use Rattle.tb_token.specs.grammar.Terminals.{sign, name, string}
 use Rattle.tb_token.specs.grammar.Paths.{path}
 use Rattle.tb_token.specs.grammar.Results.{cons, braced, attr, piece, cons_rest, back}
 use Rattle.tb_token.specs.declared.lexer.token.Kind.TheVariants as kind
-use Rattle.tb_token.specs.tokens.LetterNames as letters
+use Rattle.tb_token.specs.tokens.TerminalNames as terminals
 use Rattle.tb_pattern.specs.Value.{bytes_in}
 use Rattle.tb_pattern.specs.Building.{next, begins, Builds}
 use Rattle.tb_pattern.proofs.BuildingLaws.{one-builds, Both, both-builds, builds-as, First, Second, first-builds, second-builds, Opened, rule-builds}
@@ -29,11 +29,11 @@ use Rattle.tb_flwor.proofs.Views.{cons_of-Cons, part_of-Cons, part_of-Content}
 abbrev Next : List Tok → Tree → Type 0
 Next s v = v ≡ next s
 
-abbrev letter : List ℕ → List ℕ
-letter text = letter_of kind.Sign text ∷ []
+abbrev terminal : List ℕ → List ℕ
+terminal text = terminal_of kind.Sign text ∷ []
 
-abbrev path_letters : List ℕ
-path_letters = letters.DOCUMENT ∷ letters.VARIABLE ∷ []
+abbrev path_terminals : List ℕ
+path_terminals = terminals.DOCUMENT ∷ terminals.VARIABLE ∷ []
 
 -- what was found, with one more and what is behind
 abbrev parts_before : List part.Part → PlainParts → PlainParts
@@ -62,25 +62,25 @@ module _ (names : Names) where
     attr-builds content_is =
         builds-as attr (Both (Next s) From) (Gives (attr_from names) attr_is) s left
         (λ v b behind. ap (λ x. attr_from names x behind) (b.pair_is ∙ ap (λ x. pair b.one x) b.two_is.pair_is) ∙ rw (b.one_is, b.two_is.two_is) refl)
-        (both-builds name (both (sign (codes "=")) (either string braced)) (Next s) From s (drop 1 s) left (one-builds letters.NAMES s)
-        (both-builds (sign (codes "=")) (either string braced) (Next (drop 1 s)) (IsContent names is) (drop 1 s) (drop 1 (drop 1 s)) left (one-builds (letter (codes "=")) (drop 1 s)) content_is))
+        (both-builds name (both (sign (codes "=")) (either string braced)) (Next s) From s (drop 1 s) left (one-builds terminals.NAMES s)
+        (both-builds (sign (codes "=")) (either string braced) (Next (drop 1 s)) (IsContent names is) (drop 1 s) (drop 1 (drop 1 s)) left (one-builds (terminal (codes "=")) (drop 1 s)) content_is))
 
   abbrev pub AttrsSoFar : List AttrPart → List Tok → List Tok → Type 0
   AttrsSoFar = ListSoFar attr (attrs_of names) []
 
-  pub attrs-next : (found : List AttrPart) (is : AttrPart) (s mid left : List Tok) → begins letters.NAMES mid ≡ true → AttrsSoFar found s mid
+  pub attrs-next : (found : List AttrPart) (is : AttrPart) (s mid left : List Tok) → begins terminals.NAMES mid ≡ true → AttrsSoFar found s mid
       → Builds attr (Gives (attr_from names) is) mid left → length left ≤ length mid - 1 → AttrsSoFar (found ++ is ∷ []) s left
   attrs-next found is s mid left e far gives shorter =
       item-next attr (attr_from names) (attrs_of names) [] found is s mid left (λ v w. refl) refl e far gives shorter
 
-  pub attrs-first : (is : AttrPart) (s left : List Tok) → begins letters.NAMES s ≡ true → Builds attr (Gives (attr_from names) is) s left → length left ≤ length s - 1
+  pub attrs-first : (is : AttrPart) (s left : List Tok) → begins terminals.NAMES s ≡ true → Builds attr (Gives (attr_from names) is) s left → length left ≤ length s - 1
       → AttrsSoFar (is ∷ []) s left
   attrs-first is s left e gives shorter = attrs-next [] is s s left e (list-start attr (attrs_of names) [] s) gives shorter
 
-  pub attrs-end : (found : List AttrPart) (s left : List Tok) → begins letters.NAMES left ≡ false → AttrsSoFar found s left → Builds (many attr) (AreAttrs names found) s left
+  pub attrs-end : (found : List AttrPart) (s left : List Tok) → begins terminals.NAMES left ≡ false → AttrsSoFar found s left → Builds (many attr) (AreAttrs names found) s left
   attrs-end found s left e far = list-end attr (attrs_of names) [] found s left refl e far
 
-  pub attrs-none : (s : List Tok) → begins letters.NAMES s ≡ false → Builds (many attr) (AreAttrs names []) s s
+  pub attrs-none : (s : List Tok) → begins terminals.NAMES s ≡ false → Builds (many attr) (AreAttrs names []) s s
   attrs-none s e = builds-as (many attr) (λ v. v ≡ nothing) (AreAttrs names []) s s (λ v f. ap (attrs_of names) f) (many-none attr s e)
 
   -- Parts.
@@ -88,10 +88,10 @@ module _ (names : Names) where
   abbrev pub PartsSoFar : List part.Part → List Tok → List Tok → Type 0
   PartsSoFar found s left = SoFar piece parts_before (parts_in names) [] found s left
 
-  abbrev piece_letters : List ℕ
-  piece_letters = letters.LESS ∷ letters.QUOTED ∷ letters.OPEN_BRACE ∷ []
+  abbrev piece_terminals : List ℕ
+  piece_terminals = terminals.LESS ∷ terminals.QUOTED ∷ terminals.OPEN_BRACE ∷ []
 
-  pub parts-next : (found : List part.Part) (is : part.Part) (s mid left : List Tok) → begins piece_letters mid ≡ true → PartsSoFar found s mid
+  pub parts-next : (found : List part.Part) (is : part.Part) (s mid left : List Tok) → begins piece_terminals mid ≡ true → PartsSoFar found s mid
       → Builds piece (IsPart names is) mid left → length left ≤ length mid - 1 → PartsSoFar (found ++ is ∷ []) s left
   parts-next found is s mid left e far gives shorter =
       far-next piece parts_before (parts_in names) [] found (found ++ is ∷ []) s mid left refl e far
@@ -99,21 +99,21 @@ module _ (names : Names) where
       (λ v g w. ap (parts_before found) (g (parts_in names w)) ∙ before-next found is (parts_in names w)) gives)
       (omega arith)
 
-  pub parts-first : (is : part.Part) (s left : List Tok) → begins piece_letters s ≡ true → Builds piece (IsPart names is) s left → length left ≤ length s - 1 → PartsSoFar (is ∷ []) s left
+  pub parts-first : (is : part.Part) (s left : List Tok) → begins piece_terminals s ≡ true → Builds piece (IsPart names is) s left → length left ≤ length s - 1 → PartsSoFar (is ∷ []) s left
   parts-first is s left e gives shorter = parts-next [] is s s left e (far-start piece parts_before (parts_in names) [] s) gives shorter
 
-  pub parts-end : (found : List part.Part) (s left : List Tok) → begins piece_letters left ≡ false → PartsSoFar found s left → Builds (many piece) (AreParts names found) s left
+  pub parts-end : (found : List part.Part) (s left : List Tok) → begins piece_terminals left ≡ false → PartsSoFar found s left → Builds (many piece) (AreParts names found) s left
   parts-end found s left e far =
       builds-as (many piece) (λ v. parts_in names v ≡ parts_before found no_parts) (AreParts names found) s left (λ v f. f ∙ before-all found)
       (run-end piece parts_before (parts_in names) [] found s left e far.built)
 
-  pub parts-none : (s : List Tok) → begins piece_letters s ≡ false → Builds (many piece) (AreParts names []) s s
+  pub parts-none : (s : List Tok) → begins piece_terminals s ≡ false → Builds (many piece) (AreParts names []) s s
   parts-none s e = builds-as (many piece) (λ v. v ≡ nothing) (AreParts names []) s s (λ v f. ap (parts_in names) f) (many-none piece s e)
 
   -- One part.
 
   abbrev less : List ℕ
-  less = letter (codes "<")
+  less = terminal (codes "<")
 
   -- a constructor and its `<`
   abbrev IsInner : cons.Cons → Tree → Type 0
@@ -144,10 +144,10 @@ module _ (names : Names) where
   abbrev opened_tag : Part
   opened_tag = both (sign (codes ">")) (both (many piece) (both (sign (codes "</")) (both name (sign (codes ">")))))
 
-  pub inside-none : (s : List Tok) → begins (letter (codes "/>")) s ≡ true → Builds inside (AreInside names []) s (drop 1 s)
+  pub inside-none : (s : List Tok) → begins (terminal (codes "/>")) s ≡ true → Builds inside (AreInside names []) s (drop 1 s)
   inside-none s e =
       builds-as inside (First (Next s)) (AreInside names []) s (drop 1 s) (λ v f n a. sym (ap (λ x. cons_behind names (pair n (pair a x))) f.first_is))
-      (first-builds (sign (codes "/>")) opened_tag (Next s) s (drop 1 s) e (one-builds (letter (codes "/>")) s))
+      (first-builds (sign (codes "/>")) opened_tag (Next s) s (drop 1 s) e (one-builds (terminal (codes "/>")) s))
 
   module _ (are : List part.Part) (s mid : List Tok) where
     abbrev m1 : List Tok
@@ -162,7 +162,7 @@ module _ (names : Names) where
     abbrev Behind : Tree → Type 0
     Behind = Both (AreParts names are) Tag
 
-    pub inside-parts : begins (letter (codes "/>")) s ≡ false → Builds (many piece) (AreParts names are) (drop 1 s) mid → Builds inside (AreInside names are) s (drop 1 m2)
+    pub inside-parts : begins (terminal (codes "/>")) s ≡ false → Builds (many piece) (AreParts names are) (drop 1 s) mid → Builds inside (AreInside names are) s (drop 1 m2)
     inside-parts e parts_are =
         builds-as inside (Second (Both (Next s) Behind)) (AreInside names are) s (drop 1 m2)
         (λ v f n a.
@@ -171,10 +171,10 @@ module _ (names : Names) where
         sym (ap (λ x. cons_behind names (pair n (pair a x))) (f.second_is ∙ ap second (b.pair_is ∙ ap (λ x. pair b.one x) p.pair_is))
         ∙ ap (λ x. element (bytes_in n) (attrs_of names a) x) p.one_is))
         (second-builds (sign (codes "/>")) opened_tag (Both (Next s) Behind) s (drop 1 m2) refl e
-        (both-builds (sign (codes ">")) (both (many piece) (both (sign (codes "</")) (both name (sign (codes ">"))))) (Next s) Behind s (drop 1 s) (drop 1 m2) (one-builds (letter (codes ">")) s)
+        (both-builds (sign (codes ">")) (both (many piece) (both (sign (codes "</")) (both name (sign (codes ">"))))) (Next s) Behind s (drop 1 s) (drop 1 m2) (one-builds (terminal (codes ">")) s)
         (both-builds (many piece) (both (sign (codes "</")) (both name (sign (codes ">")))) (AreParts names are) Tag (drop 1 s) mid (drop 1 m2) parts_are
-        (both-builds (sign (codes "</")) (both name (sign (codes ">"))) (Next mid) (Both (Next m1) (Next m2)) mid m1 (drop 1 m2) (one-builds (letter (codes "</")) mid)
-        (both-builds name (sign (codes ">")) (Next m1) (Next m2) m1 m2 (drop 1 m2) (one-builds letters.NAMES m1) (one-builds (letter (codes ">")) m2))))))
+        (both-builds (sign (codes "</")) (both name (sign (codes ">"))) (Next mid) (Both (Next m1) (Next m2)) mid m1 (drop 1 m2) (one-builds (terminal (codes "</")) mid)
+        (both-builds name (sign (codes ">")) (Next m1) (Next m2) m1 m2 (drop 1 m2) (one-builds terminals.NAMES m1) (one-builds (terminal (codes ">")) m2))))))
 
   -- A whole constructor behind its `<`.
 
@@ -192,18 +192,18 @@ module _ (names : Names) where
         let a = b.two_is in
         cons_of-Cons (bytes_in (next s)) attrs_are parts_are ∙ rw (← b.one_is, ← a.one_is) refl ∙ a.two_is b.one a.one
         ∙ sym (ap (cons_behind names) (b.pair_is ∙ ap (λ x. pair b.one x) a.pair_is)))
-        (both-builds name (both (many attr) inside) (Next s) Attrs s (drop 1 s) left (one-builds letters.NAMES s)
+        (both-builds name (both (many attr) inside) (Next s) Attrs s (drop 1 s) left (one-builds terminals.NAMES s)
         (both-builds (many attr) inside (AreAttrs names attrs_are) (AreInside names parts_are) (drop 1 s) mid left attrs_is inside_is))
 
   -- What stands behind RETURN.
 
-  pub back-path : (is : Path) (s left : List Tok) → begins path_letters s ≡ true → Builds path (IsPath names is) s left → Builds back (IsBack names (back.Nodes is)) s left
+  pub back-path : (is : Path) (s left : List Tok) → begins path_terminals s ≡ true → Builds path (IsPath names is) s left → Builds back (IsBack names (back.Nodes is)) s left
   back-path is s left e path_is =
       builds-as back (First (IsPath names is)) (IsBack names (back.Nodes is)) s left
       (λ v f. sym (ap (back_in names) f.first_is ∙ ap nodes_back f.one_is))
       (first-builds path cons (IsPath names is) s left e path_is)
 
-  pub back-cons : (c : cons.Cons) (s left : List Tok) → begins path_letters s ≡ false → Builds cons_rest (IsCons names c) (drop 1 s) left → Builds back (IsBack names (back.Cons c)) s left
+  pub back-cons : (c : cons.Cons) (s left : List Tok) → begins path_terminals s ≡ false → Builds cons_rest (IsCons names c) (drop 1 s) left → Builds back (IsBack names (back.Cons c)) s left
   back-cons c s left e cons_is =
       builds-as back (Second (IsInner c)) (IsBack names (back.Cons c)) s left
       (λ v f. ap cons_back f.two_is ∙ sym (ap (back_in names) f.second_is))

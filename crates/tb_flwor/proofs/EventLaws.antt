@@ -5,8 +5,8 @@ use Rattle.std.proofs.lemmas.Bool.{and_parts, or_parts}
 use Rattle.tb_token.specs.grammar.Grammar.{Tok, Part, one, both, either, maybe, many, has}
 use Rattle.tb_token.specs.grammar.Sentences.{Tree, leaf, pair, first, second, Derives}
 use Rattle.tb_token.specs.grammar.LL1.{are_apart}
-use Rattle.tb_token.proofs.grammar.LetterLaws.{none-true, has-left, has-right, apart-none}
-use Rattle.tb_token.specs.tokens.Letters.{letter_of}
+use Rattle.tb_token.proofs.grammar.TerminalLaws.{none-true, has-left, has-right, apart-none}
+use Rattle.tb_token.specs.tokens.Lexemes.{terminal_of}
 use Rattle.tb_token.specs.grammar.Terminals.{keyword, sign, name, string, comma}
 use Rattle.tb_token.specs.grammar.Patterns.{literal}
 use Rattle.tb_token.specs.grammar.Paths.{step, steps, longpath, path, operand}
@@ -14,15 +14,15 @@ use Rattle.tb_token.specs.grammar.Results.{cons, braced, attr, piece, cons_rest,
 use Rattle.tb_token.specs.grammar.Queries.{rules, query, flwor, bind, clause, where_part, group, key, order}
 use Rattle.tb_token.specs.grammar.Queries as part
 use Rattle.tb_token.specs.declared.lexer.token.Kind.TheVariants.{Word}
-use Rattle.tb_token.specs.tokens.LetterNames as letters
+use Rattle.tb_token.specs.tokens.TerminalNames as terminals
 use Rattle.tb_pattern.proofs.PartLaws.{Of, of_one, of_both, of_first, of_second, of_nothing, of_put, of_none, of_more, of_rule, derived-of, lacks}
 use Rattle.tb_flwor.specs.Variables.{is_variable, binds, bound, is_known, begins_path, repeated_behind, unknown_behind}
 use Rattle.tb_flwor.specs.Returned.{tokens_of}
 use Rattle.tb_flwor.specs.Events as event
 use Rattle.tb_flwor.specs.Events.{Event, names_of, unknown_after, repeated_after, used, owned, bound_by, in_path, in_own_path, in_longpath, in_operand, in_bind, in_binds, in_clause, in_clauses, in_right, in_cond, in_more_conds, in_conds, in_group, in_key, in_more_keys, in_keys, in_braced, in_content, in_attrs, in_cons, in_cons_rest, in_tail, in_pieces, in_piece, in_back, in_flwor, VariablesAgree}
-use Rattle.tb_flwor.proofs.TokenLaws.{tokens-derived, swapped, only-letter, second-of}
+use Rattle.tb_flwor.proofs.TokenLaws.{tokens-derived, swapped, only-terminal, second-of}
 
--- the events of tokens, where the token before them has this letter
+-- the events of tokens, where the token before them has this terminal
 
 abbrev use_at : ℕ → Tok → Event
 use_at b t = cond (begins_path b) (event.owns t) (event.uses t)
@@ -32,12 +32,12 @@ event_at b t s = cond (binds s) (event.binds t) (use_at b t)
 
 abbrev raw : ℕ → List Tok → List Event
 raw b [] = []
-raw b (t ∷ s) = cond (is_variable t.letter) (event_at b t s ∷ raw t.letter s) (raw t.letter s)
+raw b (t ∷ s) = cond (is_variable t.terminal) (event_at b t s ∷ raw t.terminal s) (raw t.terminal s)
 
 -- What the tokens say is what their events do.
 
-bound-by : (v k p : Bool) (t : Tok) (s : List Tok) → bound s ≡ names_of (raw t.letter s)
-    → cond (v && k) (t.bytes ∷ bound s) (bound s) ≡ names_of (cond v (cond k (event.binds t) (cond p (event.owns t) (event.uses t)) ∷ raw t.letter s) (raw t.letter s))
+bound-by : (v k p : Bool) (t : Tok) (s : List Tok) → bound s ≡ names_of (raw t.terminal s)
+    → cond (v && k) (t.bytes ∷ bound s) (bound s) ≡ names_of (cond v (cond k (event.binds t) (cond p (event.owns t) (event.uses t)) ∷ raw t.terminal s) (raw t.terminal s))
 bound-by true true p t s h = ap (λ ns. t.bytes ∷ ns) h
 bound-by true false true t s h = h
 bound-by true false false t s h = h
@@ -45,11 +45,11 @@ bound-by false k p t s h = h
 
 raw-bound : (b : ℕ) (s : List Tok) → bound s ≡ names_of (raw b s)
 raw-bound b [] = refl
-raw-bound b (t ∷ s) = bound-by (is_variable t.letter) (binds s) (begins_path b) t s (raw-bound t.letter s)
+raw-bound b (t ∷ s) = bound-by (is_variable t.terminal) (binds s) (begins_path b) t s (raw-bound t.terminal s)
 
-repeated-by : (v k p : Bool) (known : List (List ℕ)) (t : Tok) (s : List Tok) → ((ns : List (List ℕ)) → repeated_behind ns s ≡ repeated_after ns (raw t.letter s))
+repeated-by : (v k p : Bool) (known : List (List ℕ)) (t : Tok) (s : List Tok) → ((ns : List (List ℕ)) → repeated_behind ns s ≡ repeated_after ns (raw t.terminal s))
     → cond (v && k) (cond (is_known known t.bytes) (Some t.number) (repeated_behind (known ++ t.bytes ∷ []) s)) (repeated_behind known s)
-    ≡ repeated_after known (cond v (cond k (event.binds t) (cond p (event.owns t) (event.uses t)) ∷ raw t.letter s) (raw t.letter s))
+    ≡ repeated_after known (cond v (cond k (event.binds t) (cond p (event.owns t) (event.uses t)) ∷ raw t.terminal s) (raw t.terminal s))
 repeated-by true true p known t s h = ap (λ o. cond (is_known known t.bytes) (Some t.number) o) (h (known ++ t.bytes ∷ []))
 repeated-by true false true known t s h = h known
 repeated-by true false false known t s h = h known
@@ -57,11 +57,11 @@ repeated-by false k p known t s h = h known
 
 raw-repeated : (b : ℕ) (known : List (List ℕ)) (s : List Tok) → repeated_behind known s ≡ repeated_after known (raw b s)
 raw-repeated b known [] = refl
-raw-repeated b known (t ∷ s) = repeated-by (is_variable t.letter) (binds s) (begins_path b) known t s (λ ns. raw-repeated t.letter ns s)
+raw-repeated b known (t ∷ s) = repeated-by (is_variable t.terminal) (binds s) (begins_path b) known t s (λ ns. raw-repeated t.terminal ns s)
 
-unknown-by : (v k p : Bool) (known : List (List ℕ)) (t : Tok) (s : List Tok) → ((ns : List (List ℕ)) → unknown_behind t.letter ns s ≡ unknown_after ns (raw t.letter s))
-    → cond v (cond k (unknown_behind t.letter (known ++ t.bytes ∷ []) s) (cond (is_known (cond p (event.before_last known) known) t.bytes) (unknown_behind t.letter known s) (Some t.number)))
-    (unknown_behind t.letter known s) ≡ unknown_after known (cond v (cond k (event.binds t) (cond p (event.owns t) (event.uses t)) ∷ raw t.letter s) (raw t.letter s))
+unknown-by : (v k p : Bool) (known : List (List ℕ)) (t : Tok) (s : List Tok) → ((ns : List (List ℕ)) → unknown_behind t.terminal ns s ≡ unknown_after ns (raw t.terminal s))
+    → cond v (cond k (unknown_behind t.terminal (known ++ t.bytes ∷ []) s) (cond (is_known (cond p (event.before_last known) known) t.bytes) (unknown_behind t.terminal known s) (Some t.number)))
+    (unknown_behind t.terminal known s) ≡ unknown_after known (cond v (cond k (event.binds t) (cond p (event.owns t) (event.uses t)) ∷ raw t.terminal s) (raw t.terminal s))
 unknown-by true true p known t s h = h (known ++ t.bytes ∷ [])
 unknown-by true false true known t s h = ap (λ o. cond (is_known (event.before_last known) t.bytes) o (Some t.number)) (h known)
 unknown-by true false false known t s h = ap (λ o. cond (is_known known t.bytes) o (Some t.number)) (h known)
@@ -69,14 +69,14 @@ unknown-by false k p known t s h = h known
 
 raw-unknown : (b : ℕ) (known : List (List ℕ)) (s : List Tok) → unknown_behind b known s ≡ unknown_after known (raw b s)
 raw-unknown b known [] = refl
-raw-unknown b known (t ∷ s) = unknown-by (is_variable t.letter) (binds s) (begins_path b) known t s (λ ns. raw-unknown t.letter ns s)
+raw-unknown b known (t ∷ s) = unknown-by (is_variable t.terminal) (binds s) (begins_path b) known t s (λ ns. raw-unknown t.terminal ns s)
 
 -- Trees part by part.
 
 -- the first token is a variable
 abbrev var_first : List Tok → Bool
 var_first [] = false
-var_first (t ∷ s) = is_variable t.letter
+var_first (t ∷ s) = is_variable t.terminal
 
 -- no variable comes next, and nothing before which one is bound
 abbrev Free : List Tok → Type 0
@@ -84,31 +84,31 @@ Free s = (var_first s ≡ false) × (binds s ≡ false)
 
 raw-before : (b : ℕ) (s : List Tok) → begins_path b ≡ false → raw b s ≡ raw 0 s
 raw-before b [] e = refl
-raw-before b (t ∷ s) e = ap (λ p. cond (is_variable t.letter) (cond (binds s) (event.binds t) (cond p (event.owns t) (event.uses t)) ∷ raw t.letter s) (raw t.letter s)) e
+raw-before b (t ∷ s) e = ap (λ p. cond (is_variable t.terminal) (cond (binds s) (event.binds t) (cond p (event.owns t) (event.uses t)) ∷ raw t.terminal s) (raw t.terminal s)) e
 
 raw-any : (b : ℕ) (s : List Tok) → var_first s ≡ false → raw b s ≡ raw 0 s
 raw-any b [] e = refl
-raw-any b (t ∷ s) e = ap (λ x. cond x (event_at b t s ∷ raw t.letter s) (raw t.letter s)) e ∙ sym (ap (λ x. cond x (event_at 0 t s ∷ raw t.letter s) (raw t.letter s)) e)
+raw-any b (t ∷ s) e = ap (λ x. cond x (event_at b t s ∷ raw t.terminal s) (raw t.terminal s)) e ∙ sym (ap (λ x. cond x (event_at 0 t s ∷ raw t.terminal s) (raw t.terminal s)) e)
 
 abbrev vars : List ℕ
-vars = letters.VARIABLE ∷ []
+vars = terminals.VARIABLE ∷ []
 
 abbrev openers : List ℕ
-openers = letters.IN ∷ letters.ASSIGN ∷ []
+openers = terminals.IN ∷ terminals.ASSIGN ∷ []
 
 abbrev binders : List ℕ
-binders = letters.IN ∷ letters.ALLOWING ∷ letters.ASSIGN ∷ []
+binders = terminals.IN ∷ terminals.ALLOWING ∷ terminals.ASSIGN ∷ []
 
-no-variable : (c : List ℕ) (t : Tok) → are_apart c vars ≡ true → has c t.letter ≡ true → is_variable t.letter ≡ false
-no-variable c t apart h = swapped t.letter letters.VARIABLE ∙ (or_parts (letters.VARIABLE == t.letter) false (apart-none c vars t.letter apart h)).0
+no-variable : (c : List ℕ) (t : Tok) → are_apart c vars ≡ true → has c t.terminal ≡ true → is_variable t.terminal ≡ false
+no-variable c t apart h = swapped t.terminal terminals.VARIABLE ∙ (or_parts (terminals.VARIABLE == t.terminal) false (apart-none c vars t.terminal apart h)).0
 
-free-at : (c : List ℕ) (t : Tok) (s : List Tok) → are_apart c vars ≡ true → are_apart c binders ≡ true → has c t.letter ≡ true → Free (t ∷ s)
-free-at c t s apart other h = (no-variable c t apart h, apart-none c binders t.letter other h)
+free-at : (c : List ℕ) (t : Tok) (s : List Tok) → are_apart c vars ≡ true → are_apart c binders ≡ true → has c t.terminal ≡ true → Free (t ∷ s)
+free-at c t s apart other h = (no-variable c t apart h, apart-none c binders t.terminal other h)
 
 -- a token that is no variable, nor one behind which a path begins
-lead : (c : List ℕ) (t : Tok) (s : List Tok) → are_apart c vars ≡ true → are_apart c openers ≡ true → has c t.letter ≡ true → raw 0 (t ∷ s) ≡ raw 0 s
+lead : (c : List ℕ) (t : Tok) (s : List Tok) → are_apart c vars ≡ true → are_apart c openers ≡ true → has c t.terminal ≡ true → raw 0 (t ∷ s) ≡ raw 0 s
 lead c t s apart other h =
-    ap (λ x. cond x (event_at 0 t s ∷ raw t.letter s) (raw t.letter s)) (no-variable c t apart h) ∙ raw-before t.letter s (apart-none c openers t.letter other h)
+    ap (λ x. cond x (event_at 0 t s ∷ raw t.terminal s) (raw t.terminal s)) (no-variable c t apart h) ∙ raw-before t.terminal s (apart-none c openers t.terminal other h)
 
 -- Trees without variables.
 
@@ -128,7 +128,7 @@ quiet-first (of_rule h g) e rest f = none-true false refl e
 
 quiet : {p : Part} {v : Tree} → Of p v → lacks vars p ≡ true → (rest : List Tok) → var_first rest ≡ false → raw 0 (tokens_of v ++ rest) ≡ raw 0 rest
 quiet (of_one {c = c} {t = t} h) e rest f =
-    ap (λ x. cond x (event_at 0 t rest ∷ raw t.letter rest) (raw t.letter rest)) (no-variable c t e h) ∙ raw-any t.letter rest f
+    ap (λ x. cond x (event_at 0 t rest ∷ raw t.terminal rest) (raw t.terminal rest)) (no-variable c t e h) ∙ raw-any t.terminal rest f
 quiet (of_both {p = p} {q = q} {v = v} {w = w} g h) e rest f =
     let parts = and_parts (lacks vars p) (lacks vars q) e in
     ap (raw 0) (append_assoc (tokens_of v) (tokens_of w) rest) ∙ quiet g parts.0 (tokens_of w ++ rest) (quiet-first h parts.1 rest f) ∙ quiet h parts.1 rest f
@@ -166,32 +166,32 @@ steps-free : {v : Tree} → Of steps v → IsFree v
 steps-free (of_both {w = w} (of_both {w = n} (of_one {c = c} {t = t} h) n_is) g) rest e = free-at c t ((tokens_of n ++ tokens_of w) ++ rest) refl refl h
 
 -- the variable itself
-used-here : (c : List ℕ) (t : Tok) (s : List Tok) → (is_variable t.letter ≡ true) → binds s ≡ false → raw 0 (t ∷ s) ≡ event.uses t ∷ raw t.letter s
+used-here : (c : List ℕ) (t : Tok) (s : List Tok) → (is_variable t.terminal ≡ true) → binds s ≡ false → raw 0 (t ∷ s) ≡ event.uses t ∷ raw t.terminal s
 used-here c t s e f =
-    ap (λ x. cond x (event_at 0 t s ∷ raw t.letter s) (raw t.letter s)) e ∙ ap (λ x. cond x (event.binds t) (event.uses t) ∷ raw t.letter s) f
+    ap (λ x. cond x (event_at 0 t s ∷ raw t.terminal s) (raw t.terminal s)) e ∙ ap (λ x. cond x (event.binds t) (event.uses t) ∷ raw t.terminal s) f
 
-is-var : (t : Tok) → has (letters.VARIABLE ∷ []) t.letter ≡ true → is_variable t.letter ≡ true
-is-var t h = only-letter letters.VARIABLE t.letter h
+is-var : (t : Tok) → has (terminals.VARIABLE ∷ []) t.terminal ≡ true → is_variable t.terminal ≡ true
+is-var t h = only-terminal terminals.VARIABLE t.terminal h
 
-var-behind : (t : Tok) → has (letters.VARIABLE ∷ []) t.letter ≡ true → begins_path t.letter ≡ false
-var-behind t h = apart-none (letters.VARIABLE ∷ []) openers t.letter refl h
+var-behind : (t : Tok) → has (terminals.VARIABLE ∷ []) t.terminal ≡ true → begins_path t.terminal ≡ false
+var-behind t h = apart-none (terminals.VARIABLE ∷ []) openers t.terminal refl h
 
 path-has : {v : Tree} → Of path v → Has (in_path v) v
 path-has (of_first f) rest e = quiet f refl rest e.0
 path-has (of_second (of_both {w = w} (of_one {c = c} {t = t} h) g)) rest e =
     let free = more-free g rest e in
-    used-here c t (tokens_of w ++ rest) (is-var t h) free.1 ∙ ap (λ x. event.uses t ∷ x) (raw-before t.letter (tokens_of w ++ rest) (var-behind t h) ∙ quiet g refl rest e.0)
+    used-here c t (tokens_of w ++ rest) (is-var t h) free.1 ∙ ap (λ x. event.uses t ∷ x) (raw-before t.terminal (tokens_of w ++ rest) (var-behind t h) ∙ quiet g refl rest e.0)
 
-owned-here : (b : ℕ) (t : Tok) (s : List Tok) → begins_path b ≡ true → is_variable t.letter ≡ true → binds s ≡ false → raw b (t ∷ s) ≡ event.owns t ∷ raw t.letter s
+owned-here : (b : ℕ) (t : Tok) (s : List Tok) → begins_path b ≡ true → is_variable t.terminal ≡ true → binds s ≡ false → raw b (t ∷ s) ≡ event.owns t ∷ raw t.terminal s
 owned-here b t s p e f =
-    ap (λ x. cond x (event_at b t s ∷ raw t.letter s) (raw t.letter s)) e ∙ ap (λ x. cond x (event.binds t) (use_at b t) ∷ raw t.letter s) f
-    ∙ ap (λ x. cond x (event.owns t) (event.uses t) ∷ raw t.letter s) p
+    ap (λ x. cond x (event_at b t s ∷ raw t.terminal s) (raw t.terminal s)) e ∙ ap (λ x. cond x (event.binds t) (use_at b t) ∷ raw t.terminal s) f
+    ∙ ap (λ x. cond x (event.owns t) (event.uses t) ∷ raw t.terminal s) p
 
 own-path : {v : Tree} → Of path v → HasOwn (in_own_path v) v
 own-path (of_first {v = v} f) b rest p e = raw-any b (tokens_of v ++ rest) (quiet-first f refl rest e.0) ∙ quiet f refl rest e.0
 own-path (of_second (of_both {w = w} (of_one {t = t} h) g)) b rest p e =
     let free = more-free g rest e in
-    owned-here b t (tokens_of w ++ rest) p (is-var t h) free.1 ∙ ap (λ x. event.owns t ∷ x) (raw-before t.letter (tokens_of w ++ rest) (var-behind t h) ∙ quiet g refl rest e.0)
+    owned-here b t (tokens_of w ++ rest) p (is-var t h) free.1 ∙ ap (λ x. event.owns t ∷ x) (raw-before t.terminal (tokens_of w ++ rest) (var-behind t h) ∙ quiet g refl rest e.0)
 
 own-longpath : {v : Tree} → Of longpath v → HasOwn (in_longpath v) v
 own-longpath (of_both {v = first d} {w = w} (of_first f) g) b rest p e =
@@ -200,16 +200,16 @@ own-longpath (of_both {v = first d} {w = w} (of_first f) g) b rest p e =
     ap (raw b) apart ∙ raw-any b (tokens_of d ++ (tokens_of w ++ rest)) (quiet-first f refl (tokens_of w ++ rest) steps_free) ∙ quiet f refl (tokens_of w ++ rest) steps_free ∙ quiet g refl rest e.0
 own-longpath (of_both {w = w} (of_second (of_one {t = t} h)) g) b rest p e =
     let free = steps-free g rest e in
-    owned-here b t (tokens_of w ++ rest) p (is-var t h) free.1 ∙ ap (λ x. event.owns t ∷ x) (raw-before t.letter (tokens_of w ++ rest) (var-behind t h) ∙ quiet g refl rest e.0)
+    owned-here b t (tokens_of w ++ rest) p (is-var t h) free.1 ∙ ap (λ x. event.owns t ∷ x) (raw-before t.terminal (tokens_of w ++ rest) (var-behind t h) ∙ quiet g refl rest e.0)
 
 -- a token that leads to the rest of a tree
-lead-pair : (es : List Event) (c : List ℕ) (t : Tok) (w : Tree) → are_apart c vars ≡ true → are_apart c openers ≡ true → has c t.letter ≡ true → Has es w → Has es (pair (leaf t) w)
+lead-pair : (es : List Event) (c : List ℕ) (t : Tok) (w : Tree) → are_apart c vars ≡ true → are_apart c openers ≡ true → has c t.terminal ≡ true → Has es w → Has es (pair (leaf t) w)
 lead-pair es c t w apart other h f rest e = lead c t (tokens_of w ++ rest) apart other h ∙ f rest e
 
-free-first : (c : List ℕ) (t : Tok) (w : Tree) → are_apart c vars ≡ true → are_apart c binders ≡ true → has c t.letter ≡ true → IsFree (pair (leaf t) w)
+free-first : (c : List ℕ) (t : Tok) (w : Tree) → are_apart c vars ≡ true → are_apart c binders ≡ true → has c t.terminal ≡ true → IsFree (pair (leaf t) w)
 free-first c t w apart other h rest e = free-at c t (tokens_of w ++ rest) apart other h
 
-free-leaf : (c : List ℕ) (t : Tok) → are_apart c vars ≡ true → are_apart c binders ≡ true → has c t.letter ≡ true → IsFree (leaf t)
+free-leaf : (c : List ℕ) (t : Tok) → are_apart c vars ≡ true → are_apart c binders ≡ true → has c t.terminal ≡ true → IsFree (leaf t)
 free-leaf c t apart other h rest e = free-at c t rest apart other h
 
 free-pair : (v w : Tree) → IsFree v → IsFree w → IsFree (pair v w)
@@ -233,54 +233,54 @@ operand-has (of_second (of_both {w = b} (of_one {c = c} {t = t} h) (of_both {w =
 
 -- Bindings.
 
-bound-here : (t : Tok) (s : List Tok) → has (letters.VARIABLE ∷ []) t.letter ≡ true → binds s ≡ true → raw 0 (t ∷ s) ≡ event.binds t ∷ raw 0 s
+bound-here : (t : Tok) (s : List Tok) → has (terminals.VARIABLE ∷ []) t.terminal ≡ true → binds s ≡ true → raw 0 (t ∷ s) ≡ event.binds t ∷ raw 0 s
 bound-here t s h f =
-    ap (λ x. cond x (event_at 0 t s ∷ raw t.letter s) (raw t.letter s)) (is-var t h) ∙ ap (λ x. cond x (event.binds t) (event.uses t) ∷ raw t.letter s) f
-    ∙ ap (λ x. event.binds t ∷ x) (raw-before t.letter s (var-behind t h))
+    ap (λ x. cond x (event_at 0 t s ∷ raw t.terminal s) (raw t.terminal s)) (is-var t h) ∙ ap (λ x. cond x (event.binds t) (event.uses t) ∷ raw t.terminal s) f
+    ∙ ap (λ x. event.binds t ∷ x) (raw-before t.terminal s (var-behind t h))
 
 -- a keyword or sign behind which the path of a binding begins
-own-here : (es : List Event) (c : List ℕ) (t : Tok) (w : Tree) → are_apart c vars ≡ true → (has c t.letter ≡ true → begins_path t.letter ≡ true) → has c t.letter ≡ true → HasOwn es w
+own-here : (es : List Event) (c : List ℕ) (t : Tok) (w : Tree) → are_apart c vars ≡ true → (has c t.terminal ≡ true → begins_path t.terminal ≡ true) → has c t.terminal ≡ true → HasOwn es w
     → (rest : List Tok) → Free rest → raw 0 (t ∷ tokens_of w ++ rest) ≡ es ++ raw 0 rest
 own-here es c t w apart opens h f rest e =
-    ap (λ x. cond x (event_at 0 t (tokens_of w ++ rest) ∷ raw t.letter (tokens_of w ++ rest)) (raw t.letter (tokens_of w ++ rest))) (no-variable c t apart h) ∙ f t.letter rest (opens h) e
+    ap (λ x. cond x (event_at 0 t (tokens_of w ++ rest) ∷ raw t.terminal (tokens_of w ++ rest)) (raw t.terminal (tokens_of w ++ rest))) (no-variable c t apart h) ∙ f t.terminal rest (opens h) e
 
-abbrev in_letter : List ℕ
-in_letter = letters.IN ∷ []
+abbrev in_terminal : List ℕ
+in_terminal = terminals.IN ∷ []
 
-abbrev assign_letter : List ℕ
-assign_letter = letters.ASSIGN ∷ []
+abbrev assign_terminal : List ℕ
+assign_terminal = terminals.ASSIGN ∷ []
 
-abbrev allowing_letter : List ℕ
-allowing_letter = letters.ALLOWING ∷ []
+abbrev allowing_terminal : List ℕ
+allowing_terminal = terminals.ALLOWING ∷ []
 
-in-opens : (x : ℕ) → has in_letter x ≡ true → has openers x ≡ true
-in-opens x h = has-left in_letter assign_letter x h
+in-opens : (x : ℕ) → has in_terminal x ≡ true → has openers x ≡ true
+in-opens x h = has-left in_terminal assign_terminal x h
 
-assign-opens : (x : ℕ) → has assign_letter x ≡ true → has openers x ≡ true
-assign-opens x h = has-right in_letter assign_letter x h
+assign-opens : (x : ℕ) → has assign_terminal x ≡ true → has openers x ≡ true
+assign-opens x h = has-right in_terminal assign_terminal x h
 
-in-binds : (x : ℕ) → has in_letter x ≡ true → has binders x ≡ true
-in-binds x h = has-left in_letter (letters.ALLOWING ∷ assign_letter) x h
+in-binds : (x : ℕ) → has in_terminal x ≡ true → has binders x ≡ true
+in-binds x h = has-left in_terminal (terminals.ALLOWING ∷ assign_terminal) x h
 
-assign-binds : (x : ℕ) → has assign_letter x ≡ true → has binders x ≡ true
-assign-binds x h = has-right (letters.IN ∷ allowing_letter) assign_letter x h
+assign-binds : (x : ℕ) → has assign_terminal x ≡ true → has binders x ≡ true
+assign-binds x h = has-right (terminals.IN ∷ allowing_terminal) assign_terminal x h
 
-allowing-binds : (x : ℕ) → has allowing_letter x ≡ true → has binders x ≡ true
-allowing-binds x h = has-right in_letter (letters.ALLOWING ∷ assign_letter) x (has-left allowing_letter assign_letter x h)
+allowing-binds : (x : ℕ) → has allowing_terminal x ≡ true → has binders x ≡ true
+allowing-binds x h = has-right in_terminal (terminals.ALLOWING ∷ assign_terminal) x (has-left allowing_terminal assign_terminal x h)
 
 bind-has : {v : Tree} → Of bind v → Has (in_bind v) v
 bind-has (of_both (of_one {t = x} h) (of_both of_nothing (of_both {w = p} (of_one {t = i} k) f))) rest e =
-    bound-here x (i ∷ tokens_of p ++ rest) h (in-binds i.letter k) ∙ ap (λ z. event.binds x ∷ z) (own-here (in_longpath p) in_letter i p refl (in-opens i.letter) k (own-longpath f) rest e)
+    bound-here x (i ∷ tokens_of p ++ rest) h (in-binds i.terminal k) ∙ ap (λ z. event.binds x ∷ z) (own-here (in_longpath p) in_terminal i p refl (in-opens i.terminal) k (own-longpath f) rest e)
 bind-has (of_both (of_one {t = x} h) (of_both (of_put (of_both (of_one {t = a} l) (of_one {c = d} {t = m} n))) (of_both {w = p} (of_one {t = i} k) f))) rest e =
-    bound-here x (a ∷ m ∷ i ∷ tokens_of p ++ rest) h (allowing-binds a.letter l)
-    ∙ ap (λ z. event.binds x ∷ z) (lead allowing_letter a (m ∷ i ∷ tokens_of p ++ rest) refl refl l ∙ lead d m (i ∷ tokens_of p ++ rest) refl refl n
-    ∙ own-here (in_longpath p) in_letter i p refl (in-opens i.letter) k (own-longpath f) rest e)
+    bound-here x (a ∷ m ∷ i ∷ tokens_of p ++ rest) h (allowing-binds a.terminal l)
+    ∙ ap (λ z. event.binds x ∷ z) (lead allowing_terminal a (m ∷ i ∷ tokens_of p ++ rest) refl refl l ∙ lead d m (i ∷ tokens_of p ++ rest) refl refl n
+    ∙ own-here (in_longpath p) in_terminal i p refl (in-opens i.terminal) k (own-longpath f) rest e)
 
 -- `:=` and a path behind a variable
-assigned : (es : List Event) (x i : Tok) (p : Tree) → has (letters.VARIABLE ∷ []) x.letter ≡ true → has assign_letter i.letter ≡ true → HasOwn es p
+assigned : (es : List Event) (x i : Tok) (p : Tree) → has (terminals.VARIABLE ∷ []) x.terminal ≡ true → has assign_terminal i.terminal ≡ true → HasOwn es p
     → Has (event.binds x ∷ es) (pair (leaf x) (pair (leaf i) p))
 assigned es x i p h k f rest e =
-    bound-here x (i ∷ tokens_of p ++ rest) h (assign-binds i.letter k) ∙ ap (λ z. event.binds x ∷ z) (own-here es assign_letter i p refl (assign-opens i.letter) k f rest e)
+    bound-here x (i ∷ tokens_of p ++ rest) h (assign-binds i.terminal k) ∙ ap (λ z. event.binds x ∷ z) (own-here es assign_terminal i p refl (assign-opens i.terminal) k f rest e)
 
 comma-bind : {v : Tree} → Of (many (both comma bind)) v → IsFree v
 comma-bind of_none = λ rest e. e
@@ -352,7 +352,7 @@ group-free : {v : Tree} → Of (maybe group) v → IsFree v
 group-free of_nothing = λ rest e. e
 group-free (of_put (of_both {w = w} (of_one {c = c} {t = t} h) g)) = free-first c t w refl refl h
 
-direction-free : {v : Tree} → Of (maybe (one (map (letter_of Word) (codes "ASCENDING" ∷ codes "DESCENDING" ∷ [])))) v → IsFree v
+direction-free : {v : Tree} → Of (maybe (one (map (terminal_of Word) (codes "ASCENDING" ∷ codes "DESCENDING" ∷ [])))) v → IsFree v
 direction-free of_nothing = λ rest e. e
 direction-free (of_put f) = one-free f refl refl
 
@@ -387,18 +387,18 @@ ends-pair : (es fs : List Event) (v w : Tree) → Ends es v → Ends fs w → En
 ends-pair es fs v w f g rest =
     ap (raw 0) (append_assoc (tokens_of v) (tokens_of w) rest) ∙ f (tokens_of w ++ rest) ∙ ap (λ x. es ++ x) (g rest) ∙ sym (append_assoc es fs (raw 0 rest))
 
-ends-lead : (es : List Event) (c : List ℕ) (t : Tok) (w : Tree) → are_apart c vars ≡ true → are_apart c openers ≡ true → has c t.letter ≡ true → Ends es w → Ends es (pair (leaf t) w)
+ends-lead : (es : List Event) (c : List ℕ) (t : Tok) (w : Tree) → are_apart c vars ≡ true → are_apart c openers ≡ true → has c t.terminal ≡ true → Ends es w → Ends es (pair (leaf t) w)
 ends-lead es c t w apart other h f rest = lead c t (tokens_of w ++ rest) apart other h ∙ f rest
 
 one-ends : {c : List ℕ} {v : Tree} → Of (one c) v → are_apart c vars ≡ true → are_apart c openers ≡ true → Ends [] v
 one-ends (of_one {c = c} {t = t} h) apart other rest = lead c t rest apart other h
 
 -- a name, whatever keyword it is, where no variable follows
-name-lead : (es : List Event) (c : List ℕ) (t : Tok) (w : Tree) → are_apart c vars ≡ true → has c t.letter ≡ true → ((rest : List Tok) → var_first (tokens_of w ++ rest) ≡ false) → Ends es w
+name-lead : (es : List Event) (c : List ℕ) (t : Tok) (w : Tree) → are_apart c vars ≡ true → has c t.terminal ≡ true → ((rest : List Tok) → var_first (tokens_of w ++ rest) ≡ false) → Ends es w
     → Ends es (pair (leaf t) w)
 name-lead es c t w apart h none f rest =
-    ap (λ x. cond x (event_at 0 t (tokens_of w ++ rest) ∷ raw t.letter (tokens_of w ++ rest)) (raw t.letter (tokens_of w ++ rest))) (no-variable c t apart h)
-    ∙ raw-any t.letter (tokens_of w ++ rest) (none rest) ∙ f rest
+    ap (λ x. cond x (event_at 0 t (tokens_of w ++ rest) ∷ raw t.terminal (tokens_of w ++ rest)) (raw t.terminal (tokens_of w ++ rest))) (no-variable c t apart h)
+    ∙ raw-any t.terminal (tokens_of w ++ rest) (none rest) ∙ f rest
 
 closed-has : {c : List ℕ} (es : List Event) (v w : Tree) → Has es v → Of (one c) w → are_apart c vars ≡ true → are_apart c openers ≡ true → are_apart c binders ≡ true → Ends es (pair v w)
 closed-has es v w f (of_one {c = c} {t = t} h) apart other third rest =
@@ -496,6 +496,6 @@ pub variables-agree : VariablesAgree
 variables-agree = record {
   names = λ s v d. raw-bound 0 s ∙ ap names_of (flwor-events s v d);
   unknown = λ s v d.
-      raw-unknown letters.FOR [] s ∙ ap (unknown_after []) (raw-before letters.FOR s refl ∙ flwor-events s v d);
+      raw-unknown terminals.FOR [] s ∙ ap (unknown_after []) (raw-before terminals.FOR s refl ∙ flwor-events s v d);
   repeated = λ s v d. raw-repeated 0 [] s ∙ ap (repeated_after []) (flwor-events s v d);
 }

@@ -2,7 +2,7 @@
 use Rattle.std.proofs.Common.{◌≡◌, ℕ, Bool, true, false, cond, List, Option, Some, None, refl, sym}
 use Rattle.std.specs.Prelude.{⊤, nat_lt, Err}
 use Rattle.tb_token.specs.grammar.Grammar.{Tok}
-use Rattle.tb_token.specs.tokens.Letters.{toks_of}
+use Rattle.tb_token.specs.tokens.Lexemes.{toks_of}
 use Rattle.tb_token.specs.declared.lexer.token.Token.{Token}
 use Rattle.tb_pattern.specs.Faults as pattern
 use Rattle.tb_flwor.specs.Variables.{clauses_in, first_unknown, first_repeated}

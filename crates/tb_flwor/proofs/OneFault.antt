@@ -3,7 +3,7 @@ use Rattle.std.proofs.Common.{◌≡◌, ℕ, ◌<◌, ◌⊎◌, inl, inr, Opti
 use Rattle.tb_token.specs.grammar.Grammar.{Tok}
 use Rattle.tb_token.specs.grammar.Sentences.{IsWrongAt}
 use Rattle.tb_token.proofs.grammar.TreeLaws.{wrong-once}
-use Rattle.tb_token.specs.tokens.Letters.{toks_of}
+use Rattle.tb_token.specs.tokens.Lexemes.{toks_of}
 use Rattle.tb_token.specs.grammar.Queries.{rules, query}
 use Rattle.tb_token.specs.declared.lexer.token.Token.{Token}
 use Rattle.tb_token.specs.declared.lexer.fault.LexFault.{LexFault}

@@ -6,11 +6,11 @@ use Rattle.tb_token.specs.grammar.Sentences.{Derives, at_end, by_first, by_secon
 use Rattle.tb_token.specs.grammar.Reading.{first_set, read}
 use Rattle.tb_token.proofs.grammar.PlaceLaws.{read-first, read-second}
 use Rattle.tb_token.proofs.grammar.ReadLaws.{read-wrong}
-use Rattle.tb_token.specs.tokens.Letters.{HaveDigits}
+use Rattle.tb_token.specs.tokens.Lexemes.{HaveDigits}
 use Rattle.tb_token.specs.grammar.Patterns.{match_query}
 use Rattle.tb_token.specs.grammar.Queries.{rules, follow, query, flwor}
 use Rattle.tb_token.proofs.grammar.QueryLaws.{readable}
-use Rattle.tb_token.specs.tokens.LetterNames as letters
+use Rattle.tb_token.specs.tokens.TerminalNames as terminals
 use Rattle.tb_pattern.specs.BuiltParts as pattern
 use Rattle.tb_pattern.specs.Building.{Come, Builds}
 use Rattle.tb_pattern.proofs.BuildingLaws.{some-none, false-true, come-as}
@@ -40,8 +40,8 @@ swapped : (x y : ℕ) → (x == y) ≡ (y == x || false)
 swapped x y = grind arith
 
 -- the keyword MATCH is the first token of a `MATCH` query, and of no other
-match-starts : (t : Tok) (u : List Tok) → is_match (t ∷ u) ≡ has (first_set match_query) t.letter
-match-starts t u = swapped t.letter letters.MATCH
+match-starts : (t : Tok) (u : List Tok) → is_match (t ∷ u) ≡ has (first_set match_query) t.terminal
+match-starts t u = swapped t.terminal terminals.MATCH
 
 pub match-asks : (s : List Tok) (p : Pattern) → is_match s ≡ true → pattern.Asks s p → Asks s (Match p)
 match-asks [] p e asks come = false-true e

@@ -6,30 +6,30 @@ use Rattle.std.proofs.lemmas.Bool.{and_parts, or_parts}
 use Rattle.tb_token.specs.grammar.Grammar.{Tok, Part, both, either, maybe, many, has}
 use Rattle.tb_token.specs.grammar.Sentences.{Tree, leaf, pair}
 use Rattle.tb_token.specs.grammar.LL1.{are_apart}
-use Rattle.tb_token.proofs.grammar.LetterLaws.{none-true, and-false, has-left, has-right, apart-none}
+use Rattle.tb_token.proofs.grammar.TerminalLaws.{none-true, and-false, has-left, has-right, apart-none}
 use Rattle.tb_token.specs.grammar.Terminals.{keyword, comma}
 use Rattle.tb_token.specs.grammar.Patterns.{test, literal}
 use Rattle.tb_token.specs.grammar.Paths.{step, steps, longpath, path, operand}
 use Rattle.tb_token.specs.grammar.Queries.{rules, query, flwor, bind, clause, where_part, group, key, order}
 use Rattle.tb_token.specs.grammar.Queries as part
-use Rattle.tb_token.specs.tokens.LetterNames as letters
+use Rattle.tb_token.specs.tokens.TerminalNames as terminals
 use Rattle.tb_pattern.specs.BuiltParts.{attribute}
 use Rattle.tb_pattern.proofs.PartLaws.{Of, of_one, of_both, of_first, of_second, of_nothing, of_put, of_none, of_more, of_rule, derived-of, lacks}
 use Rattle.tb_flwor.specs.Constructors.{before_name, behind_return, results}
 use Rattle.tb_flwor.specs.Returned.{tokens_of, back_tree, ResultsAgree}
-use Rattle.tb_flwor.proofs.TokenLaws.{tokens-derived, swapped, only-letter, second-of}
+use Rattle.tb_flwor.proofs.TokenLaws.{tokens-derived, swapped, only-terminal, second-of}
 
 -- Before a name every keyword is a name.
 
 abbrev name_signs : List ℕ
-name_signs = letters.SLASH ∷ letters.DOUBLE_SLASH ∷ letters.AT ∷ []
+name_signs = terminals.SLASH ∷ terminals.DOUBLE_SLASH ∷ terminals.AT ∷ []
 
 abbrev special : List ℕ
-special = letters.RETURN ∷ name_signs
+special = terminals.RETURN ∷ name_signs
 
 same-before : (b : ℕ) (s : List Tok) → before_name b ≡ false → behind_return b s ≡ behind_return 0 s
 same-before b [] e = refl
-same-before b (t ∷ s) e = ap (λ x. cond (t.letter == letters.RETURN && not x) s (behind_return t.letter s)) e
+same-before b (t ∷ s) e = ap (λ x. cond (t.terminal == terminals.RETURN && not x) s (behind_return t.terminal s)) e
 
 -- the reading goes on behind the tree as if it had not been there
 abbrev Calm : Tree → Type 0
@@ -43,11 +43,11 @@ calm-pair : (v w : Tree) → Calm v → Calm w → Calm (pair v w)
 calm-pair v w f g rest = ap (behind_return 0) (append_assoc (tokens_of v) (tokens_of w) rest) ∙ f (tokens_of w ++ rest) ∙ g rest
 
 -- a token that is neither the keyword nor a sign before names
-calm-leaf : (c : List ℕ) (t : Tok) → are_apart c special ≡ true → has c t.letter ≡ true → Calm (leaf t)
+calm-leaf : (c : List ℕ) (t : Tok) → are_apart c special ≡ true → has c t.terminal ≡ true → Calm (leaf t)
 calm-leaf c t apart h rest =
-    let none = or_parts (letters.RETURN == t.letter) (has name_signs t.letter) (apart-none c special t.letter apart h) in
-    let other = swapped t.letter letters.RETURN ∙ none.0 in
-    ap (λ x. cond (x && true) rest (behind_return t.letter rest)) other ∙ same-before t.letter rest none.1
+    let none = or_parts (terminals.RETURN == t.terminal) (has name_signs t.terminal) (apart-none c special t.terminal apart h) in
+    let other = swapped t.terminal terminals.RETURN ∙ none.0 in
+    ap (λ x. cond (x && true) rest (behind_return t.terminal rest)) other ∙ same-before t.terminal rest none.1
 
 quiet : {p : Part} {v : Tree} → Of p v → lacks special p ≡ true → Calm v
 quiet (of_one {c = c} {t = t} h) e = calm-leaf c t e h
@@ -63,23 +63,23 @@ quiet (of_more {v = v} {w = w} f g) e = calm-pair v w (quiet f e) (quiet g e)
 quiet (of_rule h f) e = none-true false refl e
 
 -- a name, whatever keyword it is
-name-leaf : (c : List ℕ) (t : Tok) → are_apart c name_signs ≡ true → has c t.letter ≡ true → CalmName (leaf t)
+name-leaf : (c : List ℕ) (t : Tok) → are_apart c name_signs ≡ true → has c t.terminal ≡ true → CalmName (leaf t)
 name-leaf c t apart h b rest e =
-    ap (λ x. cond (t.letter == letters.RETURN && not x) rest (behind_return t.letter rest)) e
-    ∙ ap (λ x. cond x rest (behind_return t.letter rest)) (and-false (t.letter == letters.RETURN))
-    ∙ same-before t.letter rest (apart-none c name_signs t.letter apart h)
+    ap (λ x. cond (t.terminal == terminals.RETURN && not x) rest (behind_return t.terminal rest)) e
+    ∙ ap (λ x. cond x rest (behind_return t.terminal rest)) (and-false (t.terminal == terminals.RETURN))
+    ∙ same-before t.terminal rest (apart-none c name_signs t.terminal apart h)
 
 -- a sign before a name, and what stands behind it
-sign-leaf : (c : List ℕ) (t : Tok) (w : Tree) → (has c t.letter ≡ true → has name_signs t.letter ≡ true) → are_apart c (letters.RETURN ∷ []) ≡ true → has c t.letter ≡ true → CalmName w
+sign-leaf : (c : List ℕ) (t : Tok) (w : Tree) → (has c t.terminal ≡ true → has name_signs t.terminal ≡ true) → are_apart c (terminals.RETURN ∷ []) ≡ true → has c t.terminal ≡ true → CalmName w
     → (b : ℕ) (rest : List Tok) → behind_return b (t ∷ tokens_of w ++ rest) ≡ behind_return 0 rest
 sign-leaf c t w among apart h is b rest =
-    let none = or_parts (letters.RETURN == t.letter) false (flip) in
-    let other = swapped t.letter letters.RETURN ∙ none.0 in
-    ap (λ x. cond (x && not (before_name b)) (tokens_of w ++ rest) (behind_return t.letter (tokens_of w ++ rest))) other
-    ∙ is t.letter rest (among h)
+    let none = or_parts (terminals.RETURN == t.terminal) false (flip) in
+    let other = swapped t.terminal terminals.RETURN ∙ none.0 in
+    ap (λ x. cond (x && not (before_name b)) (tokens_of w ++ rest) (behind_return t.terminal (tokens_of w ++ rest))) other
+    ∙ is t.terminal rest (among h)
   where
-    flip : (letters.RETURN == t.letter || false) ≡ false
-    flip = apart-none c (letters.RETURN ∷ []) t.letter apart h
+    flip : (terminals.RETURN == t.terminal || false) ≡ false
+    flip = apart-none c (terminals.RETURN ∷ []) t.terminal apart h
 
 attribute-name : {v : Tree} → Of attribute v → CalmName v
 attribute-name (of_first (of_one {c = c} {t = t} h)) = name-leaf c t refl h
@@ -89,11 +89,11 @@ test-name : {v : Tree} → Of test v → CalmName v
 test-name (of_first (of_one {c = c} {t = t} h)) = name-leaf c t refl h
 test-name (of_second (of_first (of_one {c = c} {t = t} h))) = name-leaf c t refl h
 test-name (of_second (of_second (of_first (of_both {w = w} (of_one {c = c} {t = t} h) n)))) =
-    λ b rest e. sign-leaf c t w (λ f. has-right (letters.SLASH ∷ letters.DOUBLE_SLASH ∷ []) c t.letter f) refl h (attribute-name n) b rest
+    λ b rest e. sign-leaf c t w (λ f. has-right (terminals.SLASH ∷ terminals.DOUBLE_SLASH ∷ []) c t.terminal f) refl h (attribute-name n) b rest
 test-name (of_second (of_second (of_second (of_one {c = c} {t = t} h)))) = name-leaf c t refl h
 
 step-calm : {v : Tree} → Of step v → Calm v
-step-calm (of_both {w = w} (of_one {c = c} {t = t} h) n) = λ rest. sign-leaf c t w (λ f. has-left c (letters.AT ∷ []) t.letter f) refl h (test-name n) 0 rest
+step-calm (of_both {w = w} (of_one {c = c} {t = t} h) n) = λ rest. sign-leaf c t w (λ f. has-left c (terminals.AT ∷ []) t.terminal f) refl h (test-name n) 0 rest
 
 more-steps : {v : Tree} → Of (many step) v → Calm v
 more-steps of_none = λ rest. refl
@@ -165,8 +165,8 @@ order-calm (of_put (of_both {v = a} {w = b} f (of_both {v = c} {w = e} g (of_bot
 
 -- The keyword RETURN itself, behind all of these.
 
-return-here : (t : Tok) (s : List Tok) → (t.letter == letters.RETURN) ≡ true → behind_return 0 (t ∷ s) ≡ s
-return-here t s e = ap (λ x. cond (x && true) s (behind_return t.letter s)) e
+return-here : (t : Tok) (s : List Tok) → (t.terminal == terminals.RETURN) ≡ true → behind_return 0 (t ∷ s) ≡ s
+return-here t s e = ap (λ x. cond (x && true) s (behind_return t.terminal s)) e
 
 skip : (v : Tree) (u rest : List Tok) → Calm v → behind_return 0 ((tokens_of v ++ u) ++ rest) ≡ behind_return 0 (u ++ rest)
 skip v u rest calm = ap (behind_return 0) (append_assoc (tokens_of v) u rest) ∙ calm (u ++ rest)
@@ -178,9 +178,9 @@ flwor-results (of_both {v = c} c_is (of_both {v = m} m_is (of_both {v = w} w_is 
     let grouped = tokens_of g ++ ordered in
     let kept = tokens_of w ++ grouped in
     let others = tokens_of m ++ kept in
-    same-before letters.FOR ((tokens_of c ++ others) ++ []) refl ∙ skip c others [] (clause-calm c_is) ∙ skip m kept [] (more-clauses m_is) ∙ skip w grouped [] (where-calm w_is)
+    same-before terminals.FOR ((tokens_of c ++ others) ++ []) refl ∙ skip c others [] (clause-calm c_is) ∙ skip m kept [] (more-clauses m_is) ∙ skip w grouped [] (where-calm w_is)
     ∙ skip g ordered [] (group-calm g_is) ∙ skip o returned [] (order-calm o_is)
-    ∙ return-here t (tokens_of b ++ []) (only-letter letters.RETURN t.letter h) ∙ append-nil (tokens_of b)
+    ∙ return-here t (tokens_of b ++ []) (only-terminal terminals.RETURN t.terminal h) ∙ append-nil (tokens_of b)
 
 -- so it is of every query of clauses
 pub results-agree : ResultsAgree

@@ -1,8 +1,8 @@
--- A list has the tokens of its trees; and two laws on one letter.
+-- A list has the tokens of its trees; and two laws on one terminal.
 use Rattle.std.proofs.Common.{◌≡◌, ℕ, Bool, true, false, ◌||◌, ◌==◌, List, [], ◌∷◌, ◌++◌, refl, sym, ap, ◌∙◌, append_assoc, arith}
 use Rattle.tb_token.specs.grammar.Grammar.{Tok, Part, either}
 use Rattle.tb_token.specs.grammar.Sentences.{Tree, second, Derives, at_end, by_one, by_both, by_first, by_second, left_out, put_in, no_more, one_more, by_rule}
-use Rattle.tb_token.proofs.grammar.LetterLaws.{none-true}
+use Rattle.tb_token.proofs.grammar.TerminalLaws.{none-true}
 use Rattle.tb_token.specs.grammar.Queries.{rules}
 use Rattle.tb_pattern.proofs.PartLaws.{Of, of_second}
 use Rattle.tb_flwor.specs.Returned.{tokens_of}
@@ -35,9 +35,9 @@ second-of (of_second f) = f
 pub swapped : (x y : ℕ) → (x == y) ≡ (y == x)
 swapped x y = grind arith
 
--- a letter that is the only one
-pub only-letter : (x y : ℕ) → (x == y || false) ≡ true → (y == x) ≡ true
-only-letter x y e = by (x == y) refl e
+-- a terminal that is the only one
+pub only-terminal : (x y : ℕ) → (x == y || false) ≡ true → (y == x) ≡ true
+only-terminal x y e = by (x == y) refl e
   where
     by : (b : Bool) → (x == y) ≡ b → (b || false) ≡ true → (y == x) ≡ true
     by true f g = swapped y x ∙ f

@@ -2,7 +2,7 @@
 use Rattle.std.proofs.Common.{◌≡◌, ℕ, true, false, List, [], ◌∷◌, Some, refl}
 use Rattle.std.specs.Prelude.{codes}
 use Rattle.tb_token.specs.grammar.Sentences.{Tree, leaf, nothing, pair, first, second}
-use Rattle.tb_token.specs.tokens.Letters.{letter_of}
+use Rattle.tb_token.specs.tokens.Lexemes.{terminal_of}
 use Rattle.tb_token.specs.declared.lexer.token.Kind.{Kind}
 use Rattle.tb_token.specs.declared.lexer.token.Kind.TheVariants as kind
 use Rattle.tb_number.specs.declared.agg.AggKind.TheVariants.{Sum}
@@ -20,7 +20,7 @@ use Rattle.tb_flwor.specs.Value.{Names, path_of, longpath_of, operand_of, clause
 use Rattle.tb_flwor.specs.Results.{cons_behind}
 
 abbrev tok : Kind → List ℕ → Tree
-tok k bytes = leaf (record { letter = letter_of k bytes; bytes = bytes; number = 0 })
+tok k bytes = leaf (record { terminal = terminal_of k bytes; bytes = bytes; number = 0 })
 
 abbrev sign : List ℕ → Tree
 sign text = tok kind.Sign text

@@ -2,7 +2,7 @@
 use Rattle.std.specs.Prelude.{◌≡◌, ℕ, Bool, false, List, [], ◌∷◌, ◌++◌, Option, map, codes}
 use Rattle.tb_token.specs.grammar.Grammar.{Tok, Part, one, both, either, many, row}
 use Rattle.tb_token.specs.grammar.Sentences.{Tree, pair, first}
-use Rattle.tb_token.specs.tokens.Letters.{letter_of}
+use Rattle.tb_token.specs.tokens.Lexemes.{terminal_of}
 use Rattle.tb_token.specs.declared.lexer.token.Kind.TheVariants.{Word}
 use Rattle.tb_token.specs.grammar.Terminals.{keyword, sign, name}
 use Rattle.tb_token.specs.grammar.Queries.{clause, query}
@@ -109,7 +109,7 @@ IsGroup names is v = value.group_of names v ≡ is
 
 -- ASCENDING | DESCENDING
 abbrev pub direction : Part
-direction = one (map (letter_of Word) (codes "ASCENDING" ∷ codes "DESCENDING" ∷ []))
+direction = one (map (terminal_of Word) (codes "ASCENDING" ∷ codes "DESCENDING" ∷ []))
 
 -- whether the order is turned round
 abbrev pub IsTurned : Bool → Tree → Type 0

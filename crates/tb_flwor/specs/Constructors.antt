@@ -5,27 +5,27 @@ use Rattle.std.specs.List.{list_any}
 use Rattle.std.specs.Str.{bytes_eq}
 use Rattle.tb_token.specs.grammar.Grammar.{Tok, has}
 use Rattle.tb_token.specs.tokens.Nesting.{is_too_nested}
-use Rattle.tb_token.specs.tokens.LetterNames as letters
+use Rattle.tb_token.specs.tokens.TerminalNames as terminals
 
 -- an axis or `@`, behind which every keyword is a name
 abbrev pub before_name : ℕ → Bool
-before_name x = has (letters.SLASH ∷ letters.DOUBLE_SLASH ∷ letters.AT ∷ []) x
+before_name x = has (terminals.SLASH ∷ terminals.DOUBLE_SLASH ∷ terminals.AT ∷ []) x
 
--- what stands behind the keyword RETURN, where the token before is of that letter
+-- what stands behind the keyword RETURN, where the token before is of that terminal
 abbrev pub behind_return : ℕ → List Tok → List Tok
 behind_return before [] = []
 behind_return before (t ∷ s) =
-    if t.letter == letters.RETURN && not (before_name before) then s
-    else behind_return t.letter s
+    if t.terminal == terminals.RETURN && not (before_name before) then s
+    else behind_return t.terminal s
 
 -- what a query of clauses returns
 abbrev pub results : List Tok → List Tok
-results s = behind_return letters.FOR s
+results s = behind_return terminals.FOR s
 
 -- more than 32 constructors are inside each other
 abbrev pub is_nested : List Tok → Bool
 is_nested s =
-    is_too_nested (letters.LESS ∷ []) (letters.SELF_CLOSE ∷ letters.END_TAG ∷ []) s
+    is_too_nested (terminals.LESS ∷ []) (terminals.SELF_CLOSE ∷ terminals.END_TAG ∷ []) s
 
 -- the bytes and the number of the next token
 abbrev pub next_bytes : List Tok → List ℕ
@@ -50,9 +50,9 @@ closed (n ∷ started) = started
 abbrev pub wrong_behind : List (List ℕ) → List Tok → Option ℕ
 wrong_behind started [] = None
 wrong_behind started (t ∷ s) =
-    if t.letter == letters.LESS then wrong_behind (next_bytes s ∷ started) s
-    else (if t.letter == letters.SELF_CLOSE then wrong_behind (closed started) s
-    else (if t.letter == letters.END_TAG
+    if t.terminal == terminals.LESS then wrong_behind (next_bytes s ∷ started) s
+    else (if t.terminal == terminals.SELF_CLOSE then wrong_behind (closed started) s
+    else (if t.terminal == terminals.END_TAG
     then (if is_ended_by started (next_bytes s) then wrong_behind (closed started) s else Some (next_number s))
     else wrong_behind started s))
 
@@ -63,14 +63,14 @@ first_wrong_tag s = wrong_behind [] s
 -- `=` comes next
 abbrev pub is_named : List Tok → Bool
 is_named [] = false
-is_named (t ∷ s) = t.letter == letters.EQUAL
+is_named (t ∷ s) = t.terminal == terminals.EQUAL
 
 -- the first attribute's name token that is among these names of its constructor, or stands earlier
 -- in it
 abbrev pub repeated_in : List (List ℕ) → List Tok → Option ℕ
 repeated_in names [] = None
 repeated_in names (t ∷ s) =
-    if t.letter == letters.LESS then repeated_in [] s
+    if t.terminal == terminals.LESS then repeated_in [] s
     else (if is_named s
     then (if list_any (bytes_eq t.bytes) names then Some t.number else repeated_in (names ++ t.bytes ∷ []) s)
     else repeated_in names s)

@@ -4,7 +4,7 @@ use Rattle.std.specs.Prelude.{◌≡◌, ◌≢◌, ℕ, ◌<◌, ◌≤◌, Boo
 use Rattle.tb_token.specs.grammar.Grammar.{Tok}
 use Rattle.tb_token.specs.grammar.Sentences.{AreSentence, IsWrongAt}
 use Rattle.tb_token.specs.tokens.Cuts.{IsCut}
-use Rattle.tb_token.specs.tokens.Letters.{toks_of}
+use Rattle.tb_token.specs.tokens.Lexemes.{toks_of}
 use Rattle.tb_token.specs.grammar.Queries.{rules, query}
 use Rattle.tb_token.specs.declared.lexer.token.Token.{Token}
 use Rattle.tb_token.specs.declared.lexer.fault.LexFault.{LexFault}

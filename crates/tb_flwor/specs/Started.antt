@@ -4,26 +4,26 @@ use Rattle.std.specs.Prelude.{ℕ, Bool, ◌==◌, ◌&&◌, ◌||◌, not, if�
 use Rattle.std.specs.List.{list_any}
 use Rattle.std.specs.Str.{bytes_eq}
 use Rattle.tb_token.specs.grammar.Grammar.{Tok}
-use Rattle.tb_token.specs.tokens.LetterNames as letters
+use Rattle.tb_token.specs.tokens.TerminalNames as terminals
 use Rattle.tb_flwor.specs.Constructors.{is_ended_by, closed, is_named}
 
 -- the token begins an end tag that has not the name of its start
 abbrev pub is_wrong_end : List (List ℕ) → ℕ → List ℕ → Bool
-is_wrong_end started x name = x == letters.END_TAG && not (is_ended_by started name)
+is_wrong_end started x name = x == terminals.END_TAG && not (is_ended_by started name)
 
 -- the constructors that are open behind the token
 abbrev pub started_behind : List (List ℕ) → ℕ → List ℕ → List (List ℕ)
 started_behind started x name =
-    if x == letters.LESS then name ∷ started
-    else (if x == letters.SELF_CLOSE || x == letters.END_TAG then closed started else started)
+    if x == terminals.LESS then name ∷ started
+    else (if x == terminals.SELF_CLOSE || x == terminals.END_TAG then closed started else started)
 
 -- the token is an attribute's name that is among these
 abbrev pub is_repeated : List (List ℕ) → Tok → List Tok → Bool
 is_repeated names t s =
-    not (t.letter == letters.LESS) && (is_named s && list_any (bytes_eq t.bytes) names)
+    not (t.terminal == terminals.LESS) && (is_named s && list_any (bytes_eq t.bytes) names)
 
 -- the names of the attributes behind the token
 abbrev pub attributes_behind : List (List ℕ) → Tok → List Tok → List (List ℕ)
 attributes_behind names t s =
-    if t.letter == letters.LESS then []
+    if t.terminal == terminals.LESS then []
     else (if is_named s then names ++ t.bytes ∷ [] else names)

@@ -3,11 +3,11 @@
 -- never asked.
 use Rattle.std.specs.Prelude.{ℕ, Bool, ◌==◌, if◌then◌else◌, List, [], ◌∷◌, ◌++◌, codes, Option, Some, None}
 use Rattle.tb_token.specs.grammar.Sentences.{Tree, nothing, pair, first, second}
-use Rattle.tb_token.specs.tokens.Letters.{letter_of, place_in}
+use Rattle.tb_token.specs.tokens.Lexemes.{terminal_of, place_in}
 use Rattle.tb_token.specs.declared.lexer.token.Kind.TheVariants as kind
 use Rattle.tb_number.specs.declared.agg.AggKind.{AggKind}
 use Rattle.tb_number.specs.declared.agg.AggKind.TheVariants as agg
-use Rattle.tb_pattern.specs.Value.{letter_in, bytes_in, is_there, inside, axis_of, test_of, op_of, literal_of}
+use Rattle.tb_pattern.specs.Value.{terminal_in, bytes_in, is_there, inside, axis_of, test_of, op_of, literal_of}
 use Rattle.tb_query.specs.declared.path.Path.{Path}
 use Rattle.tb_query.specs.declared.path.Start.TheVariants as start
 use Rattle.tb_query.specs.declared.path.Step.{Step}
@@ -68,7 +68,7 @@ longpath_of names (pair (second v) steps) = from_variable names v (steps_of step
 longpath_of names _ = from_document nothing []
 
 abbrev pub is_keyword : List ℕ → Tree → Bool
-is_keyword text v = letter_in v == letter_of kind.Word text
+is_keyword text v = terminal_in v == terminal_of kind.Word text
 
 -- COUNT | SUM | MIN | MAX
 abbrev pub agg_of : Tree → AggKind

@@ -16,7 +16,7 @@ use std::alloc::{AllocError, Global};
 use tb_pattern::prefix::{begins, begins_name, behind, bytes};
 use tb_query::{AttrPart, Back, Cons, Part};
 use tb_token::Lexeme;
-use tb_token::letters::{DOCUMENT, LESS, OPEN_BRACE, QUOTED, SELF_CLOSE, VARIABLE};
+use tb_token::terminals::{DOCUMENT, LESS, OPEN_BRACE, QUOTED, SELF_CLOSE, VARIABLE};
 use tb_tree::{Bytes, Items};
 
 /// path | "<" and the rest of the constructor

@@ -14,7 +14,7 @@ use std::alloc::{AllocError, Global};
 use tb_pattern::prefix::{begins, behind, bytes};
 use tb_query::Clause;
 use tb_token::Lexeme;
-use tb_token::letters::{ALLOWING, COMMA, FOR, LET};
+use tb_token::terminals::{ALLOWING, COMMA, FOR, LET};
 use tb_tree::Items;
 
 /// clause { clause }

@@ -16,7 +16,7 @@ use tb_pattern::conds::literal;
 use tb_pattern::prefix::{begins, behind, op};
 use tb_query::{Comparison, Right};
 use tb_token::Lexeme;
-use tb_token::letters::{AND, COUNT, DOCUMENT, MAX, MIN, SUM, VARIABLE, WHERE};
+use tb_token::terminals::{AND, COUNT, DOCUMENT, MAX, MIN, SUM, VARIABLE, WHERE};
 use tb_tree::Items;
 
 /// [ WHERE cond { AND cond } ]

@@ -9,7 +9,7 @@ ghost use Rattle.tb_flwor.specs.Started as steps;
 
 use std::alloc::{AllocError, Global};
 use std::collections::BTreeSet;
-use tb_token::letters::{
+use tb_token::terminals::{
     AT, DOUBLE_SLASH, END_TAG, EQUAL, FOR, LESS, RETURN, SELF_CLOSE, SLASH, has,
 };
 use tb_token::{Lexeme, is_too_nested};
@@ -20,10 +20,10 @@ pub fn results<'t, 'a>(tokens: &'t [Lexeme<'a>]) -> &'t [Lexeme<'a>]
 {
     let mut before = FOR;
     'tokens: for (at, token) in tokens.iter().enumerate() {
-        if token.letter == RETURN && !has(&[SLASH, DOUBLE_SLASH, AT], before) {
+        if token.terminal == RETURN && !has(&[SLASH, DOUBLE_SLASH, AT], before) {
             return &tokens[at + 1..];
         }
-        before = token.letter;
+        before = token.terminal;
     }
     &[]
 }
@@ -42,19 +42,19 @@ pub fn first_wrong_tag(alloc: Global, tokens: &[Lexeme]) -> Result<Option<u32>, 
     let mut started = Vec::new(alloc);
     'tokens: for (at, token) in tokens.iter().enumerate() {
         let rest = &tokens[at + 1..];
-        if is_wrong_end(started.as_slice(), token.letter, next_bytes(rest)) {
+        if is_wrong_end(started.as_slice(), token.terminal, next_bytes(rest)) {
             return Ok(Some(next_number(rest)));
         }
-        follow(&mut started, token.letter, next_bytes(rest))?;
+        follow(&mut started, token.terminal, next_bytes(rest))?;
     }
     Ok(None)
 }
 
-/// Whether the letter ends a constructor that has not this name.
-fn is_wrong_end(started: &[&[u8]], letter: u8, name: &[u8]) -> bool
-    ensures { result ≡ steps.is_wrong_end (last_first started.now) letter name.now }
+/// Whether the terminal ends a constructor that has not this name.
+fn is_wrong_end(started: &[&[u8]], terminal: u8, name: &[u8]) -> bool
+    ensures { result ≡ steps.is_wrong_end (last_first started.now) terminal name.now }
 {
-    letter == END_TAG && !is_ended_by(started, name)
+    terminal == END_TAG && !is_ended_by(started, name)
 }
 
 /// Whether the constructor that was opened last has this name.
@@ -67,15 +67,15 @@ fn is_ended_by(started: &[&[u8]], name: &[u8]) -> bool
     }
 }
 
-/// Opens a constructor of this name, or closes the last one, as the letter says.
-fn follow<'a>(started: &mut Vec<&'a [u8]>, letter: u8, name: &'a [u8]) -> Result<(), AllocError>
+/// Opens a constructor of this name, or closes the last one, as the terminal says.
+fn follow<'a>(started: &mut Vec<&'a [u8]>, terminal: u8, name: &'a [u8]) -> Result<(), AllocError>
     ensures { OnOk result
         (last_first started.new.items
-        ≡ steps.started_behind (last_first started.old.items) letter name.now) }
+        ≡ steps.started_behind (last_first started.old.items) terminal name.now) }
 {
-    if letter == LESS {
+    if terminal == LESS {
         started.push(name)?;
-    } else if letter == SELF_CLOSE || letter == END_TAG {
+    } else if terminal == SELF_CLOSE || terminal == END_TAG {
         started.pop();
     }
     Ok(())
@@ -127,7 +127,7 @@ fn is_repeated<'a>(
         (AreAlike (lent names.new.keys)
         (steps.attributes_behind (lent names.old.keys) token.now rest.now)) }
 {
-    if token.letter == LESS {
+    if token.terminal == LESS {
         names.clear();
         return Ok(false);
     }
@@ -143,7 +143,7 @@ fn is_named(tokens: &[Lexeme]) -> bool
     ensures { result ≡ constructors.is_named tokens.now }
 {
     match tokens {
-        [first, ..] => first.letter == EQUAL,
+        [first, ..] => first.terminal == EQUAL,
         [] => false,
     }
 }

@@ -5,47 +5,52 @@
 use tb_pattern::grammar::{
     AND, AXIS, CLOSE, CMP, COMMA, DOC, LITERAL, MATCH_QUERY, NAME, OPEN, STRING, TEST,
 };
-use tb_token::{Part, letters};
+use tb_token::{Part, terminals};
 
-const VARIABLE: Part = Part::One(&[letters::VARIABLE]);
+const VARIABLE: Part = Part::One(&[terminals::VARIABLE]);
 
-const SELF_CLOSE: Part = Part::One(&[letters::SELF_CLOSE]);
+const SELF_CLOSE: Part = Part::One(&[terminals::SELF_CLOSE]);
 
-const END_TAG: Part = Part::One(&[letters::END_TAG]);
+const END_TAG: Part = Part::One(&[terminals::END_TAG]);
 
-const GREATER: Part = Part::One(&[letters::GREATER]);
+const GREATER: Part = Part::One(&[terminals::GREATER]);
 
-const EQUAL: Part = Part::One(&[letters::EQUAL]);
+const EQUAL: Part = Part::One(&[terminals::EQUAL]);
 
-const ASSIGN: Part = Part::One(&[letters::ASSIGN]);
+const ASSIGN: Part = Part::One(&[terminals::ASSIGN]);
 
-const OPEN_BRACE: Part = Part::One(&[letters::OPEN_BRACE]);
+const OPEN_BRACE: Part = Part::One(&[terminals::OPEN_BRACE]);
 
-const CLOSE_BRACE: Part = Part::One(&[letters::CLOSE_BRACE]);
+const CLOSE_BRACE: Part = Part::One(&[terminals::CLOSE_BRACE]);
 
-const FOR: Part = Part::One(&[letters::FOR]);
+const FOR: Part = Part::One(&[terminals::FOR]);
 
-const LET: Part = Part::One(&[letters::LET]);
+const LET: Part = Part::One(&[terminals::LET]);
 
-const IN: Part = Part::One(&[letters::IN]);
+const IN: Part = Part::One(&[terminals::IN]);
 
-const ALLOWING: Part = Part::One(&[letters::ALLOWING]);
+const ALLOWING: Part = Part::One(&[terminals::ALLOWING]);
 
-const EMPTY: Part = Part::One(&[letters::EMPTY]);
+const EMPTY: Part = Part::One(&[terminals::EMPTY]);
 
-const WHERE: Part = Part::One(&[letters::WHERE]);
+const WHERE: Part = Part::One(&[terminals::WHERE]);
 
-const GROUP: Part = Part::One(&[letters::GROUP]);
+const GROUP: Part = Part::One(&[terminals::GROUP]);
 
-const ORDER: Part = Part::One(&[letters::ORDER]);
+const ORDER: Part = Part::One(&[terminals::ORDER]);
 
-const BY: Part = Part::One(&[letters::BY]);
+const BY: Part = Part::One(&[terminals::BY]);
 
-const RETURN: Part = Part::One(&[letters::RETURN]);
+const RETURN: Part = Part::One(&[terminals::RETURN]);
 
-const AGG: Part = Part::One(&[letters::COUNT, letters::SUM, letters::MIN, letters::MAX]);
+const AGG: Part = Part::One(&[
+    terminals::COUNT,
+    terminals::SUM,
+    terminals::MIN,
+    terminals::MAX,
+]);
 
-const DIRECTION: Part = Part::One(&[letters::ASCENDING, letters::DESCENDING]);
+const DIRECTION: Part = Part::One(&[terminals::ASCENDING, terminals::DESCENDING]);
 
 // step = axis test
 const STEP: Part = Part::Both(&AXIS, &TEST);
@@ -120,7 +125,7 @@ const ORDER_PART: Part = Part::Both(
 );
 
 // cons = "<" and the rest of the constructor, which is rule 1
-const CONS: Part = Part::Opened(&[letters::LESS], 1);
+const CONS: Part = Part::Opened(&[terminals::LESS], 1);
 
 // "{" operand "}"
 const BRACED: Part = Part::Both(&OPEN_BRACE, &Part::Both(&OPERAND, &CLOSE_BRACE));

@@ -1,7 +1,7 @@
 //! The variables of a query by their names.
 
 ghost use Rattle.std.specs.Prelude.{◌≡◌, ◌≤◌, ◌↔◌, IsSome, IfSome, length, map};
-ghost use Rattle.tb_token.specs.tokens.Letters.{place_in};
+ghost use Rattle.tb_token.specs.tokens.Lexemes.{place_in};
 
 use std::marker::Model;
 

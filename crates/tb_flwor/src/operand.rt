@@ -16,7 +16,7 @@ use tb_number::AggKind;
 use tb_pattern::prefix::{begins, behind, quoted};
 use tb_query::{Content, Operand};
 use tb_token::Lexeme;
-use tb_token::letters::{DOCUMENT, MAX, MIN, QUOTED, SUM, VARIABLE};
+use tb_token::terminals::{DOCUMENT, MAX, MIN, QUOTED, SUM, VARIABLE};
 
 /// path | agg "(" path ")"
 pub fn operand<'t, 'a>(

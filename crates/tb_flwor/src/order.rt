@@ -14,7 +14,7 @@ use std::alloc::{AllocError, Global};
 use tb_pattern::prefix::{begins, behind, bytes};
 use tb_query::{GroupBy, Key};
 use tb_token::Lexeme;
-use tb_token::letters::{ASCENDING, COMMA, DESCENDING, GROUP, ORDER};
+use tb_token::terminals::{ASCENDING, COMMA, DESCENDING, GROUP, ORDER};
 use tb_tree::Items;
 
 /// [ GROUP BY VARIABLE ":=" path ]

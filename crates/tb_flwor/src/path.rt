@@ -15,7 +15,7 @@ use tb_pattern::node_test::test;
 use tb_pattern::prefix::{axis, begins, behind, bytes, quoted};
 use tb_query::{Path, Start, Step};
 use tb_token::Lexeme;
-use tb_token::letters::{DOCUMENT, DOUBLE_SLASH, SLASH};
+use tb_token::terminals::{DOCUMENT, DOUBLE_SLASH, SLASH};
 use tb_tree::{Bytes, Items};
 
 /// doc step { step } | VARIABLE { step }

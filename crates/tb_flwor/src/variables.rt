@@ -8,14 +8,14 @@ ghost use Rattle.tb_flwor.specs.Noted as noted;
 
 use std::alloc::{AllocError, Global};
 use tb_token::Lexeme;
-use tb_token::letters::{ALLOWING, ASSIGN, FOR, IN, MATCH, VARIABLE, has};
+use tb_token::terminals::{ALLOWING, ASSIGN, FOR, IN, MATCH, VARIABLE, has};
 
 /// Whether the tokens begin with the keyword MATCH.
 pub fn is_match(tokens: &[Lexeme]) -> bool
     ensures { result ≡ variables.is_match tokens.now }
 {
     match tokens {
-        [first, ..] => first.letter == MATCH,
+        [first, ..] => first.terminal == MATCH,
         [] => false,
     }
 }
@@ -49,7 +49,7 @@ fn note<'a>(
 fn is_bound(token: &Lexeme, rest: &[Lexeme]) -> bool
     ensures { result ≡ noted.is_bound token.now rest.now }
 {
-    token.letter == VARIABLE && binds(rest)
+    token.terminal == VARIABLE && binds(rest)
 }
 
 /// Whether IN, ALLOWING or `:=` comes next.
@@ -57,7 +57,7 @@ fn binds(tokens: &[Lexeme]) -> bool
     ensures { result ≡ variables.binds tokens.now }
 {
     match tokens {
-        [first, ..] => has(&[IN, ALLOWING, ASSIGN], first.letter),
+        [first, ..] => has(&[IN, ALLOWING, ASSIGN], first.terminal),
         [] => false,
     }
 }
@@ -101,7 +101,7 @@ pub fn first_unknown(alloc: Global, tokens: &[Lexeme]) -> Result<Option<u32>, Al
             return Ok(Some(token.number));
         }
         note(&mut names, token, rest)?;
-        before = token.letter;
+        before = token.terminal;
     }
     Ok(None)
 }
@@ -110,10 +110,10 @@ pub fn first_unknown(alloc: Global, tokens: &[Lexeme]) -> Result<Option<u32>, Al
 fn is_used(token: &Lexeme, rest: &[Lexeme]) -> bool
     ensures { result ≡ noted.is_used token.now rest.now }
 {
-    token.letter == VARIABLE && !binds(rest)
+    token.terminal == VARIABLE && !binds(rest)
 }
 
-/// The names that are known behind a token of that letter, where these are bound.
+/// The names that are known behind a token of that terminal, where these are bound.
 fn known_behind<'n, 'a>(before: u8, names: &'n [&'a [u8]]) -> &'n [&'a [u8]]
     ensures { lent result.now ≡ variables.known_behind before (lent names.now) }
 {

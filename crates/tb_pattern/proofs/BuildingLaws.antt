@@ -5,10 +5,10 @@ use Rattle.tb_token.specs.grammar.Grammar.{Tok, Part, one, both, either, maybe, 
 use Rattle.tb_token.specs.grammar.Sentences.{Tree, leaf, nothing, pair, first, second, by_one, by_both, by_first, by_second, left_out, put_in, by_rule}
 use Rattle.tb_token.specs.grammar.Reading.{is_never_empty, first_set, after, read}
 use Rattle.tb_token.proofs.grammar.PlaceLaws.{read-both, read-first, read-second, read-put_in, read-left_out, read-one, read-rule}
-use Rattle.tb_token.proofs.grammar.LetterLaws.{none-true}
+use Rattle.tb_token.proofs.grammar.TerminalLaws.{none-true}
 use Rattle.tb_token.specs.grammar.Queries.{rules}
 use Rattle.tb_pattern.specs.Faults.{is_past, past_behind}
-use Rattle.tb_token.specs.tokens.LetterNames.{is_sign}
+use Rattle.tb_token.specs.tokens.TerminalNames.{is_sign}
 use Rattle.tb_pattern.specs.Building.{next, begins, Come, IsBuilt, Builds}
 
 -- the reading of a list that ends too early, or of a token that is wrong, is no whole one
@@ -21,16 +21,16 @@ false-true e = none-true false refl e
 -- The next token is taken.
 
 pub numbers-next : (minus : Bool) (t : Tok) (u : List Tok) → past_behind minus (t ∷ u) ≡ None
-    → (is_past minus t.letter t.bytes ≡ false) × (past_behind (is_sign (codes "-") t.letter) u ≡ None)
-numbers-next minus t u e = by (is_past minus t.letter t.bytes) refl e
+    → (is_past minus t.terminal t.bytes ≡ false) × (past_behind (is_sign (codes "-") t.terminal) u ≡ None)
+numbers-next minus t u e = by (is_past minus t.terminal t.bytes) refl e
   where
-    by : (past : Bool) → is_past minus t.letter t.bytes ≡ past → cond past (Some t.number) (past_behind (is_sign (codes "-") t.letter) u) ≡ None
-        → (is_past minus t.letter t.bytes ≡ false) × (past_behind (is_sign (codes "-") t.letter) u ≡ None)
+    by : (past : Bool) → is_past minus t.terminal t.bytes ≡ past → cond past (Some t.number) (past_behind (is_sign (codes "-") t.terminal) u) ≡ None
+        → (is_past minus t.terminal t.bytes ≡ false) × (past_behind (is_sign (codes "-") t.terminal) u ≡ None)
     by true here e = some-none e
     by false here e = (here, e)
 
 pub come-next : (minus : Bool) (ps qs : List Part) (t : Tok) (u : List Tok) → Come minus ps (t ∷ u) → read rules (t ∷ u) (Some ps) ≡ read rules u (Some qs)
-    → Come (is_sign (codes "-") t.letter) qs u
+    → Come (is_sign (codes "-") t.terminal) qs u
 come-next minus ps qs t u come e = record {
   parts = sym e ∙ come.parts;
   digits = come.digits.1;
@@ -41,25 +41,25 @@ come-next minus ps qs t u come e = record {
 pub come-as : (minus : Bool) (ps qs : List Part) (s : List Tok) → read rules s (Some ps) ≡ read rules s (Some qs) → Come minus ps s → Come minus qs s
 come-as minus ps qs s e come = record { parts = sym e ∙ come.parts; digits = come.digits; numbers = come.numbers }
 
-pub wrong-letter : {A : Type 0} (c : List ℕ) (t : Tok) (u : List Tok) (ps : List Part) → has c t.letter ≡ false → read rules (t ∷ u) (Some (one c ∷ ps)) ≡ None → A
-wrong-letter c t u ps h e =
-    let stuck : after rules (one c ∷ ps) t.letter ≡ None = rw h refl in
+pub wrong-terminal : {A : Type 0} (c : List ℕ) (t : Tok) (u : List Tok) (ps : List Part) → has c t.terminal ≡ false → read rules (t ∷ u) (Some (one c ∷ ps)) ≡ None → A
+wrong-terminal c t u ps h e =
+    let stuck : after rules (one c ∷ ps) t.terminal ≡ None = rw h refl in
     some-none (sym (ap (λ o. read rules u o) stuck) ∙ e)
 
--- a token stands at the beginning where one must, and its letter is among these
+-- a token stands at the beginning where one must, and its terminal is among these
 pub one-builds : (c : List ℕ) (s : List Tok) → Builds (one c) (λ v. v ≡ next s) s (drop 1 s)
 one-builds c [] ps minus come = some-none come.parts
-one-builds c (t ∷ u) ps minus come = by (has c t.letter) refl
+one-builds c (t ∷ u) ps minus come = by (has c t.terminal) refl
   where
-    by : (is : Bool) → has c t.letter ≡ is → IsBuilt (one c) (λ v. v ≡ leaf t) ps (t ∷ u) u
+    by : (is : Bool) → has c t.terminal ≡ is → IsBuilt (one c) (λ v. v ≡ leaf t) ps (t ∷ u) u
     by true h = record {
-      minus = is_sign (codes "-") t.letter;
+      minus = is_sign (codes "-") t.terminal;
       behind = come-next minus (one c ∷ ps) ps t u come (read-one rules c t u ps h);
       tree = leaf t;
       is = refl;
       derived = λ vs d. by_one h d;
     }
-    by false h = wrong-letter c t u ps h come.parts
+    by false h = wrong-terminal c t u ps h come.parts
 
 -- a pair of such trees
 pub record Both (P Q : Tree → Type 0) (v : Tree) : Type 0 where
@@ -159,11 +159,11 @@ pub record Opened (P : Tree → Type 0) (v : Tree) : Type 0 where
 
 pub rule-builds : (c : List ℕ) (n : ℕ) (P : Tree → Type 0) (s left : List Tok) → Builds (rules n) P (drop 1 s) left → Builds (opened c n) (Opened P) s left
 rule-builds c n P [] left is ps minus come = some-none come.parts
-rule-builds c n P (t ∷ u) left is ps minus come = by (has c t.letter) refl
+rule-builds c n P (t ∷ u) left is ps minus come = by (has c t.terminal) refl
   where
-    by : (here : Bool) → has c t.letter ≡ here → IsBuilt (opened c n) (Opened P) ps (t ∷ u) left
+    by : (here : Bool) → has c t.terminal ≡ here → IsBuilt (opened c n) (Opened P) ps (t ∷ u) left
     by true h =
-        let b = is ps (is_sign (codes "-") t.letter) (come-next minus (opened c n ∷ ps) (rules n ∷ ps) t u come (read-rule rules c n t u ps h)) in
+        let b = is ps (is_sign (codes "-") t.terminal) (come-next minus (opened c n ∷ ps) (rules n ∷ ps) t u come (read-rule rules c n t u ps h)) in
         record {
           minus = b.minus;
           behind = b.behind;
@@ -172,5 +172,5 @@ rule-builds c n P (t ∷ u) left is ps minus come = by (has c t.letter) refl
           derived = λ vs d. by_rule h (b.derived vs d);
         }
     by false h =
-        let stuck : after rules (opened c n ∷ ps) t.letter ≡ None = rw h refl in
+        let stuck : after rules (opened c n ∷ ps) t.terminal ≡ None = rw h refl in
         some-none (sym (ap (λ o. read rules u o) stuck) ∙ come.parts)

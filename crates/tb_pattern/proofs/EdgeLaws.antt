@@ -5,7 +5,7 @@ use Rattle.tb_token.specs.grammar.Grammar.{Tok, Part, both, maybe, many}
 use Rattle.tb_token.specs.grammar.Sentences.{Tree, nothing, pair}
 use Rattle.tb_token.specs.grammar.Terminals.{sign, comma}
 use Rattle.tb_token.specs.grammar.Patterns.{axis, mark, test, conds, edges, edge, edges_rest}
-use Rattle.tb_token.specs.tokens.LetterNames as letters
+use Rattle.tb_token.specs.tokens.TerminalNames as terminals
 use Rattle.tb_tree.specs.declared.node_test.Test.{Test}
 use Rattle.tb_pattern.specs.Plain.{PlainEdges, no_edges}
 use Rattle.tb_pattern.specs.Value.{is_there, axis_of, mark_of, edges_from, more_edges_in, edges_behind, edges_in}
@@ -19,15 +19,15 @@ use Rattle.tb_pattern.proofs.Views.{edge_of-Edge, pattern_at-PNode}
 use Rattle.tb_pattern.proofs.BuildingLaws.{false-true, one-builds, Both, both-builds, builds-as, put_in-builds, left_out-builds, Opened, rule-builds}
 use Rattle.tb_pattern.proofs.ListLaws.{IsList, BuildsList, list-first, list-next, list-end}
 
-abbrev bang_letter : List ℕ
-bang_letter = letters.BANG ∷ []
+abbrev bang_terminal : List ℕ
+bang_terminal = terminals.BANG ∷ []
 
-pub whole-there : (s : List Tok) → begins bang_letter s ≡ true → Builds (maybe bang) (IsWhole true) s (drop 1 s)
+pub whole-there : (s : List Tok) → begins bang_terminal s ≡ true → Builds (maybe bang) (IsWhole true) s (drop 1 s)
 whole-there [] e = false-true e
 whole-there (t ∷ u) e =
-    put_in-builds bang (IsWhole true) (t ∷ u) u e (builds-as bang (Next (t ∷ u)) (IsWhole true) (t ∷ u) u (λ v f. ap is_there f) (one-builds bang_letter (t ∷ u)))
+    put_in-builds bang (IsWhole true) (t ∷ u) u e (builds-as bang (Next (t ∷ u)) (IsWhole true) (t ∷ u) u (λ v f. ap is_there f) (one-builds bang_terminal (t ∷ u)))
 
-pub whole-none : (s : List Tok) → begins bang_letter s ≡ false → Builds (maybe bang) (IsWhole false) s s
+pub whole-none : (s : List Tok) → begins bang_terminal s ≡ false → Builds (maybe bang) (IsWhole false) s s
 whole-none s e = builds-as (maybe bang) (λ v. v ≡ nothing) (IsWhole false) s s (λ v f. ap is_there f) (left_out-builds bang s e)
 
 -- An edge, part by part.
@@ -68,8 +68,8 @@ module _ (s t_left c_left w_left left : List Tok) (is_test : Test) (are_conds : 
       → Builds (maybe bang) (IsWhole is_whole) c_left w_left → Builds (maybe edges) (AreBelow are_below) w_left left → Builds edge (IsEdge built) s left
   edge-builds t_is c_is w_is b_is =
       builds-as edge (Both (Next s) Marks) (IsEdge built) s left edge-is
-      (both-builds axis (both mark (both test (both (maybe conds) (both (maybe bang) (maybe edges))))) (Next s) Marks s (drop 1 s) left (one-builds letters.AXES s)
-      (both-builds mark (both test (both (maybe conds) (both (maybe bang) (maybe edges)))) (Next (drop 1 s)) Tests (drop 1 s) (drop 1 (drop 1 s)) left (one-builds letters.MARKS (drop 1 s))
+      (both-builds axis (both mark (both test (both (maybe conds) (both (maybe bang) (maybe edges))))) (Next s) Marks s (drop 1 s) left (one-builds terminals.AXES s)
+      (both-builds mark (both test (both (maybe conds) (both (maybe bang) (maybe edges)))) (Next (drop 1 s)) Tests (drop 1 s) (drop 1 (drop 1 s)) left (one-builds terminals.MARKS (drop 1 s))
       (both-builds test (both (maybe conds) (both (maybe bang) (maybe edges))) (IsTest is_test) Conds (drop 1 (drop 1 s)) t_left left t_is
       (both-builds (maybe conds) (both (maybe bang) (maybe edges)) (AreConds are_conds) Whole t_left c_left left c_is
       (both-builds (maybe bang) (maybe edges) (IsWhole is_whole) (AreBelow are_below) c_left w_left left w_is b_is)))))
@@ -84,43 +84,43 @@ before-all : (found : List Edge) → edges_before found no_edges ≡ edges_of fo
 before-all [] = refl
 before-all (f ∷ fs) = ap (λ es. put (edge_of f) es) (before-all fs)
 
-abbrev comma_letter : List ℕ
-comma_letter = letters.COMMA ∷ []
+abbrev comma_terminal : List ℕ
+comma_terminal = terminals.COMMA ∷ []
 
 -- so much of the list is built
 pub record EdgesSoFar (found : List Edge) (s left : List Tok) : Type 0 where
-  pub built : BuildsList comma_letter edge edges_from more_edges_in (λ behind. edges_before found behind) s left
+  pub built : BuildsList comma_terminal edge edges_from more_edges_in (λ behind. edges_before found behind) s left
   pub shorter : length left ≤ length s
 
 pub edges-first : (e : Edge) (s left : List Tok) → Builds edge (IsEdge e) s left → length left ≤ length s → EdgesSoFar (e ∷ []) s left
 edges-first e s left is shorter = record {
-  built = list-first comma_letter edge edges_from more_edges_in (λ behind. put (edge_of e) behind) s left is;
+  built = list-first comma_terminal edge edges_from more_edges_in (λ behind. put (edge_of e) behind) s left is;
   shorter = shorter;
 }
 
-pub edges-next : (found : List Edge) (e : Edge) (s mid left : List Tok) → begins comma_letter mid ≡ true → EdgesSoFar found s mid → Builds edge (IsEdge e) (drop 1 mid) left
+pub edges-next : (found : List Edge) (e : Edge) (s mid left : List Tok) → begins comma_terminal mid ≡ true → EdgesSoFar found s mid → Builds edge (IsEdge e) (drop 1 mid) left
     → length left ≤ length (drop 1 mid) → EdgesSoFar (found ++ e ∷ []) s left
 edges-next found e s mid left is_comma so_far is shorter = record {
-  built = list-next comma_letter edge edges_from more_edges_in (λ behind. edges_before found behind) (λ behind. put (edge_of e) behind) (λ behind. edges_before (found ++ e ∷ []) behind) s mid left
+  built = list-next comma_terminal edge edges_from more_edges_in (λ behind. edges_before found behind) (λ behind. put (edge_of e) behind) (λ behind. edges_before (found ++ e ∷ []) behind) s mid left
       (λ sep v w. refl) (λ behind. before-next found e behind) is_comma so_far.built is;
   shorter = let before = so_far.shorter in omega (arith, length-drop 1 mid);
 }
 
 abbrev closing : List ℕ
-closing = letters.CLOSE ∷ []
+closing = terminals.CLOSE ∷ []
 
 abbrev inner : Part
 inner = both edge (many (both comma edge))
 
-pub edges-end : (found : List Edge) (s left : List Tok) → begins comma_letter left ≡ false → EdgesSoFar found s left → Builds edges_rest (AreEdges found) s (drop 1 left)
+pub edges-end : (found : List Edge) (s left : List Tok) → begins comma_terminal left ≡ false → EdgesSoFar found s left → Builds edges_rest (AreEdges found) s (drop 1 left)
 edges-end found s left e so_far =
-    builds-as edges_rest (Both (IsList comma_letter edge edges_from more_edges_in (edges_before found no_edges)) (Next left)) (AreEdges found) s (drop 1 left)
+    builds-as edges_rest (Both (IsList comma_terminal edge edges_from more_edges_in (edges_before found no_edges)) (Next left)) (AreEdges found) s (drop 1 left)
     (λ v b. sym (ap edges_behind b.pair_is ∙ ap (λ w. edges_behind (pair w b.two)) b.one_is.pair_is ∙ b.one_is.value_is ∙ before-all found))
-    (both-builds inner (sign (codes ")")) (IsList comma_letter edge edges_from more_edges_in (edges_before found no_edges)) (Next left) s left (drop 1 left)
-    (list-end comma_letter edge edges_from more_edges_in (λ behind. edges_before found behind) s left e so_far.built) (one-builds closing left))
+    (both-builds inner (sign (codes ")")) (IsList comma_terminal edge edges_from more_edges_in (edges_before found no_edges)) (Next left) s left (drop 1 left)
+    (list-end comma_terminal edge edges_from more_edges_in (λ behind. edges_before found behind) s left e so_far.built) (one-builds closing left))
 
 abbrev opening : List ℕ
-opening = letters.OPEN ∷ []
+opening = terminals.OPEN ∷ []
 
 pub rest-builds : (found : List Edge) (s left : List Tok) → Builds edges_rest (AreEdges found) (drop 1 s) left → Builds edges (AreBelow found) s left
 rest-builds found s left is =

@@ -5,10 +5,10 @@ use Rattle.tb_token.specs.grammar.Grammar.{Tok, Part, one, both, many}
 use Rattle.tb_token.specs.grammar.Sentences.{Tree, leaf, nothing, pair, Derives, by_one, by_both, no_more, one_more}
 use Rattle.tb_token.specs.grammar.Reading.{read}
 use Rattle.tb_token.proofs.grammar.PlaceLaws.{read-both, read-one_more, read-no_more, read-one}
-use Rattle.tb_token.proofs.grammar.LetterLaws.{none-true}
+use Rattle.tb_token.proofs.grammar.TerminalLaws.{none-true}
 use Rattle.tb_token.specs.grammar.Queries.{rules}
 use Rattle.tb_token.specs.grammar.Terminals.{list_of}
-use Rattle.tb_token.specs.tokens.LetterNames.{is_sign}
+use Rattle.tb_token.specs.tokens.TerminalNames.{is_sign}
 use Rattle.tb_pattern.specs.Building.{begins, Come, IsBuilt, Builds}
 use Rattle.tb_pattern.proofs.BuildingLaws.{come-next}
 
@@ -50,7 +50,7 @@ module _ (c : List ℕ) (p : Part) {A : Type 0} (from : Tree → A → A) (more 
   list-next f g h s (t ∷ u) left pairs same e lists is ps minus come =
       let so_far = lists ps minus come in
       let read_is = read-one_more rules (both (one c) p) t u ps refl e ∙ read-both rules (one c) p (t ∷ u) (others ∷ ps) ∙ read-one rules c t u (p ∷ others ∷ ps) e in
-      let b = is (others ∷ ps) (is_sign (codes "-") t.letter) (come-next so_far.minus (others ∷ ps) (p ∷ others ∷ ps) t u so_far.behind read_is) in
+      let b = is (others ∷ ps) (is_sign (codes "-") t.terminal) (come-next so_far.minus (others ∷ ps) (p ∷ others ∷ ps) t u so_far.behind read_is) in
       record {
         minus = b.minus;
         behind = b.behind;

@@ -7,12 +7,12 @@ use Rattle.tb_span.specs.declared.item.Axis.TheVariants.{Child}
 use Rattle.tb_tree.specs.declared.node_test.Test.TheVariants.{Name}
 use Rattle.tb_token.specs.grammar.Grammar.{Tok, Part, both, maybe, many, has}
 use Rattle.tb_token.specs.grammar.Sentences.{Tree, leaf, nothing, pair, first, second, Derives, at_end, by_one, by_both, by_first, by_second, left_out, put_in, no_more, one_more, by_rule}
-use Rattle.tb_token.proofs.grammar.LetterLaws.{none-true, has-only, apart-none}
+use Rattle.tb_token.proofs.grammar.TerminalLaws.{none-true, has-only, apart-none}
 use Rattle.tb_token.specs.grammar.Terminals.{comma}
 use Rattle.tb_token.specs.grammar.Patterns.{edges, edge, match_query}
 use Rattle.tb_token.specs.grammar.Queries.{rules}
-use Rattle.tb_token.specs.tokens.LetterNames.{letters_of}
-use Rattle.tb_token.specs.tokens.LetterNames as letters
+use Rattle.tb_token.specs.tokens.TerminalNames.{terminals_of}
+use Rattle.tb_token.specs.tokens.TerminalNames as terminals
 use Rattle.tb_token.specs.tokens.Nesting as nesting
 use Rattle.tb_pattern.specs.Faults.{is_too_nested}
 use Rattle.tb_pattern.specs.declared.pattern.Mark.TheVariants.{One}
@@ -20,9 +20,9 @@ use Rattle.tb_pattern.specs.Plain.{matching, PlainEdges, no_edges, edge as edge_
 use Rattle.tb_pattern.specs.Value.{edges_in, more_edges_in, edges_from, pattern_of, AskFor}
 use Rattle.tb_pattern.proofs.PartLaws.{Of, of_one, of_both, of_first, of_second, of_nothing, of_put, of_none, of_more, of_rule, derived-of, lacks}
 
--- the letters of a tree's tokens, and others behind them
+-- the terminals of a tree's tokens, and others behind them
 abbrev leaves : Tree → List ℕ → List ℕ
-leaves (leaf t) rest = t.letter ∷ rest
+leaves (leaf t) rest = t.terminal ∷ rest
 leaves nothing rest = rest
 leaves (pair v w) rest = leaves v (leaves w rest)
 leaves (first v) rest = leaves v rest
@@ -32,9 +32,9 @@ abbrev all_leaves : List Tree → List ℕ
 all_leaves [] = []
 all_leaves (v ∷ vs) = leaves v (all_leaves vs)
 
-leaves-derived : {ps : List Part} {vs : List Tree} {s : List Tok} → Derives rules ps vs s → all_leaves vs ≡ letters_of s
+leaves-derived : {ps : List Part} {vs : List Tree} {s : List Tok} → Derives rules ps vs s → all_leaves vs ≡ terminals_of s
 leaves-derived at_end = refl
-leaves-derived (by_one {t = t} h d) = ap (λ xs. t.letter ∷ xs) (leaves-derived d)
+leaves-derived (by_one {t = t} h d) = ap (λ xs. t.terminal ∷ xs) (leaves-derived d)
 leaves-derived (by_both d) = leaves-derived d
 leaves-derived (by_first d) = leaves-derived d
 leaves-derived (by_second d) = leaves-derived d
@@ -42,15 +42,15 @@ leaves-derived (left_out d) = leaves-derived d
 leaves-derived (put_in d) = leaves-derived d
 leaves-derived (no_more d) = leaves-derived d
 leaves-derived (one_more d) = leaves-derived d
-leaves-derived (by_rule {t = t} h d) = ap (λ xs. t.letter ∷ xs) (leaves-derived d)
+leaves-derived (by_rule {t = t} h d) = ap (λ xs. t.terminal ∷ xs) (leaves-derived d)
 
 abbrev open_behind : ℕ → ℕ → ℕ
-open_behind = nesting.open_behind (letters.OPEN ∷ []) (letters.CLOSE ∷ [])
+open_behind = nesting.open_behind (terminals.OPEN ∷ []) (terminals.CLOSE ∷ [])
 
 abbrev nests_past : ℕ → List ℕ → Bool
-nests_past = nesting.nests_past (letters.OPEN ∷ []) (letters.CLOSE ∷ [])
+nests_past = nesting.nests_past (terminals.OPEN ∷ []) (terminals.CLOSE ∷ [])
 
--- the most brackets that are open at once, where so many are before the letters
+-- the most brackets that are open at once, where so many are before the terminals
 abbrev most_open : ℕ → List ℕ → ℕ
 most_open depth [] = depth
 most_open depth (x ∷ xs) = max depth (most_open (open_behind depth x) xs)
@@ -70,20 +70,20 @@ most-from depth [] = omega arith
 most-from depth (x ∷ xs) = omega arith
 
 abbrev brackets : List ℕ
-brackets = letters.OPEN ∷ letters.CLOSE ∷ []
+brackets = terminals.OPEN ∷ terminals.CLOSE ∷ []
 
--- a letter that is no bracket opens and closes none
+-- a terminal that is no bracket opens and closes none
 none-behind : (depth x : ℕ) → has brackets x ≡ false → open_behind depth x ≡ depth
-none-behind depth x none = by (has (letters.OPEN ∷ []) x) (has (letters.CLOSE ∷ []) x) refl refl
+none-behind depth x none = by (has (terminals.OPEN ∷ []) x) (has (terminals.CLOSE ∷ []) x) refl refl
   where
-    by : (opens closes : Bool) → has (letters.OPEN ∷ []) x ≡ opens → has (letters.CLOSE ∷ []) x ≡ closes
+    by : (opens closes : Bool) → has (terminals.OPEN ∷ []) x ≡ opens → has (terminals.CLOSE ∷ []) x ≡ closes
         → cond opens (depth + 1) (cond closes (depth - 1) depth) ≡ depth
-    by true closes e f = none-true (has brackets x) none (ap (has brackets) (has-only letters.OPEN x e))
-    by false true e f = none-true (has brackets x) none (ap (has brackets) (has-only letters.CLOSE x f))
+    by true closes e f = none-true (has brackets x) none (ap (has brackets) (has-only terminals.OPEN x e))
+    by false true e f = none-true (has brackets x) none (ap (has brackets) (has-only terminals.CLOSE x f))
     by false false e f = refl
 
-quiet-letter : (depth x : ℕ) (rest : List ℕ) → has brackets x ≡ false → most_open depth (x ∷ rest) ≡ most_open depth rest
-quiet-letter depth x rest none =
+quiet-terminal : (depth x : ℕ) (rest : List ℕ) → has brackets x ≡ false → most_open depth (x ∷ rest) ≡ most_open depth rest
+quiet-terminal depth x rest none =
     let same = none-behind depth x none in
     let from = most-from depth rest in
     let fewer : max depth (most_open depth rest) ≡ most_open depth rest = omega arith in
@@ -91,7 +91,7 @@ quiet-letter depth x rest none =
 
 -- a part without brackets opens none
 quiet-open : {p : Part} {v : Tree} → Of p v → lacks brackets p ≡ true → (depth : ℕ) (rest : List ℕ) → most_open depth (leaves v rest) ≡ most_open depth rest
-quiet-open (of_one {c = c} {t = t} h) e depth rest = quiet-letter depth t.letter rest (apart-none c brackets t.letter e h)
+quiet-open (of_one {c = c} {t = t} h) e depth rest = quiet-terminal depth t.terminal rest (apart-none c brackets t.terminal e h)
 quiet-open (of_both {p = p} {q = q} {w = w} f g) e depth rest =
     let parts = and_parts (lacks brackets p) (lacks brackets q) e in
     quiet-open f parts.0 depth (leaves w rest) ∙ quiet-open g parts.1 depth rest
@@ -103,13 +103,13 @@ quiet-open of_none e depth rest = refl
 quiet-open (of_more {w = w} f g) e depth rest = quiet-open f e depth (leaves w rest) ∙ quiet-open g e depth rest
 quiet-open (of_rule h f) e depth rest = none-true false refl e
 
-letter-opens : (depth x : ℕ) (rest : List ℕ) → has (letters.OPEN ∷ []) x ≡ true → most_open depth (x ∷ rest) ≡ max depth (most_open (depth + 1) rest)
-letter-opens depth x rest is = ap (λ y. most_open depth (y ∷ rest)) (has-only letters.OPEN x is)
+terminal-opens : (depth x : ℕ) (rest : List ℕ) → has (terminals.OPEN ∷ []) x ≡ true → most_open depth (x ∷ rest) ≡ max depth (most_open (depth + 1) rest)
+terminal-opens depth x rest is = ap (λ y. most_open depth (y ∷ rest)) (has-only terminals.OPEN x is)
 
-letter-closes : (depth x : ℕ) (rest : List ℕ) → has (letters.CLOSE ∷ []) x ≡ true → most_open (depth + 1) (x ∷ rest) ≡ max (depth + 1) (most_open depth rest)
-letter-closes depth x rest is =
+terminal-closes : (depth x : ℕ) (rest : List ℕ) → has (terminals.CLOSE ∷ []) x ≡ true → most_open (depth + 1) (x ∷ rest) ≡ max (depth + 1) (most_open depth rest)
+terminal-closes depth x rest is =
     let back : depth + 1 - 1 ≡ depth = omega arith in
-    ap (λ y. most_open (depth + 1) (y ∷ rest)) (has-only letters.CLOSE x is)
+    ap (λ y. most_open (depth + 1) (y ∷ rest)) (has-only terminals.CLOSE x is)
     ∙ ap (λ n. max (depth + 1) (most_open n rest)) back
 
 edge-levels : {v : Tree} → Of edge v → (behind : PlainEdges) → 1 ≤ levels (edges_from v behind)
@@ -123,10 +123,10 @@ edges-levels (of_rule h (of_both (of_both {w = more} e more_is) close)) = edge-l
 mutual
   edges-open : {v : Tree} → Of edges v → (depth : ℕ) (rest : List ℕ) → most_open depth (leaves v rest) ≡ max (depth + levels (edges_in v)) (most_open depth rest)
   edges-open (of_rule {t = t} h (of_both (of_both {v = v} {w = more} e more_is) (of_one {t = u} close))) depth rest =
-      let opening = letter-opens depth t.letter (leaves v (leaves more (u.letter ∷ rest))) h in
-      let closing = letter-closes depth u.letter rest close in
-      let others = more-open more_is depth (u.letter ∷ rest) in
-      let here = edge-open e (more_edges_in more) depth (leaves more (u.letter ∷ rest)) (most_open (depth + 1) (u.letter ∷ rest)) others in
+      let opening = terminal-opens depth t.terminal (leaves v (leaves more (u.terminal ∷ rest))) h in
+      let closing = terminal-closes depth u.terminal rest close in
+      let others = more-open more_is depth (u.terminal ∷ rest) in
+      let here = edge-open e (more_edges_in more) depth (leaves more (u.terminal ∷ rest)) (most_open (depth + 1) (u.terminal ∷ rest)) others in
       let some = edge-levels e (more_edges_in more) in
       omega arith
 
@@ -159,9 +159,9 @@ match-open : {v : Tree} → Of match_query v → most_open 0 (leaves v []) ≡ l
 match-open (of_both {w = from_doc} keyword (of_both {w = below} (of_both {w = from_name} doc (of_both (of_one {t = t} h) (of_both {v = name} string (of_one {t = u} close)))) es)) =
     let keyword_is = quiet-open keyword refl 0 (leaves from_doc []) in
     let doc_is = quiet-open doc refl 0 (leaves from_name (leaves below [])) in
-    let opening = letter-opens 0 t.letter (leaves name (u.letter ∷ leaves below [])) h in
-    let name_is = quiet-open string refl 1 (u.letter ∷ leaves below []) in
-    let closing = letter-closes 0 u.letter (leaves below []) close in
+    let opening = terminal-opens 0 t.terminal (leaves name (u.terminal ∷ leaves below [])) h in
+    let name_is = quiet-open string refl 1 (u.terminal ∷ leaves below []) in
+    let closing = terminal-closes 0 u.terminal (leaves below []) close in
     let edges_are = edges-open es 0 [] in
     let some = edges-levels es in
     omega arith

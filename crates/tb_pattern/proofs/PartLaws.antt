@@ -1,4 +1,4 @@
--- Trees of a part, wherever its tokens stand, and letters that stand in none of them.
+-- Trees of a part, wherever its tokens stand, and terminals that stand in none of them.
 use Rattle.std.proofs.Common.{◌≡◌, ℕ, Bool, true, false, ◌&&◌, List, [], ◌∷◌}
 use Rattle.std.specs.Prelude.{⊤}
 use Rattle.tb_token.specs.grammar.Grammar.{Tok, Part, one, both, either, maybe, many, opened, has}
@@ -8,7 +8,7 @@ use Rattle.tb_token.specs.grammar.Queries.{rules}
 
 -- a tree of the part
 pub data Of : Part → Tree → Type 0 where
-  of_one : {c : List ℕ} {t : Tok} → has c t.letter ≡ true → Of (one c) (leaf t)
+  of_one : {c : List ℕ} {t : Tok} → has c t.terminal ≡ true → Of (one c) (leaf t)
   of_both : {p q : Part} {v w : Tree} → Of p v → Of q w → Of (both p q) (pair v w)
   of_first : {p q : Part} {v : Tree} → Of p v → Of (either p q) (first v)
   of_second : {p q : Part} {v : Tree} → Of q v → Of (either p q) (second v)
@@ -16,7 +16,7 @@ pub data Of : Part → Tree → Type 0 where
   of_put : {p : Part} {v : Tree} → Of p v → Of (maybe p) v
   of_none : {p : Part} → Of (many p) nothing
   of_more : {p : Part} {v w : Tree} → Of p v → Of (many p) w → Of (many p) (pair v w)
-  of_rule : {c : List ℕ} {n : ℕ} {t : Tok} {v : Tree} → has c t.letter ≡ true → Of (rules n) v → Of (opened c n) (pair (leaf t) v)
+  of_rule : {c : List ℕ} {n : ℕ} {t : Tok} {v : Tree} → has c t.terminal ≡ true → Of (rules n) v → Of (opened c n) (pair (leaf t) v)
 
 -- a tree of each part
 abbrev pub AllOf : List Part → List Tree → Type 0
@@ -37,7 +37,7 @@ derived-of (no_more d) = (of_none, derived-of d)
 derived-of (one_more d) = let f = derived-of d in (of_more f.0 f.1.0, f.1.1)
 derived-of (by_rule h d) = let f = derived-of d in (of_rule h f.0, f.1)
 
--- none of the letters stands in the part; a rule is not looked into
+-- none of the terminals stands in the part; a rule is not looked into
 abbrev pub lacks : List ℕ → Part → Bool
 lacks xs (one c) = are_apart c xs
 lacks xs (both p q) = lacks xs p && lacks xs q

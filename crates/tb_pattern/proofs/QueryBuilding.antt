@@ -5,12 +5,12 @@ use Rattle.tb_token.specs.grammar.Grammar.{Tok, both}
 use Rattle.tb_token.specs.grammar.Sentences.{Tree, pair, Derives, at_end}
 use Rattle.tb_token.specs.grammar.Reading.{read}
 use Rattle.tb_token.proofs.grammar.ReadLaws.{read-wrong}
-use Rattle.tb_token.specs.tokens.Letters.{HaveDigits}
+use Rattle.tb_token.specs.tokens.Lexemes.{HaveDigits}
 use Rattle.tb_token.specs.grammar.Terminals.{keyword, sign, string}
 use Rattle.tb_token.specs.grammar.Patterns.{doc, edges, edges_rest, match_query}
 use Rattle.tb_token.specs.grammar.Queries.{rules, follow}
 use Rattle.tb_token.proofs.grammar.QueryLaws.{readable}
-use Rattle.tb_token.specs.tokens.LetterNames as letters
+use Rattle.tb_token.specs.tokens.TerminalNames as terminals
 use Rattle.tb_pattern.specs.Syntax.{AreMatch}
 use Rattle.tb_pattern.specs.Faults.{HasNoFault}
 use Rattle.tb_pattern.specs.Plain.{PlainEdges}
@@ -72,11 +72,11 @@ module _ (s : List Tok) (es : List Edge) (left : List Tok) where
   query-builds : Builds edges_rest (AreEdges es) (drop 1 s5) left → Builds match_query (Query (inside (bytes_in (next s3))) (edges_of es)) s left
   query-builds rest_is =
       builds-as match_query (Both (Next s) Behind) (Query (inside (bytes_in (next s3))) (edges_of es)) s left query-is
-      (both-builds (keyword (codes "MATCH")) (both doc edges) (Next s) Behind s s1 left (one-builds (letters.MATCH ∷ []) s)
+      (both-builds (keyword (codes "MATCH")) (both doc edges) (Next s) Behind s s1 left (one-builds (terminals.MATCH ∷ []) s)
       (both-builds doc edges Doc (AreBelow es) s1 s5 left
-      (both-builds (keyword (codes "DOCUMENT")) (both (sign (codes "(")) (both string (sign (codes ")")))) (Next s1) Open s1 s2 s5 (one-builds (letters.DOCUMENT ∷ []) s1)
-      (both-builds (sign (codes "(")) (both string (sign (codes ")"))) (Next s2) Close s2 s3 s5 (one-builds (letters.OPEN ∷ []) s2)
-      (both-builds string (sign (codes ")")) (Next s3) (Next s4) s3 s4 s5 (one-builds (letters.QUOTED ∷ []) s3) (one-builds (letters.CLOSE ∷ []) s4))))
+      (both-builds (keyword (codes "DOCUMENT")) (both (sign (codes "(")) (both string (sign (codes ")")))) (Next s1) Open s1 s2 s5 (one-builds (terminals.DOCUMENT ∷ []) s1)
+      (both-builds (sign (codes "(")) (both string (sign (codes ")"))) (Next s2) Close s2 s3 s5 (one-builds (terminals.OPEN ∷ []) s2)
+      (both-builds string (sign (codes ")")) (Next s3) (Next s4) s3 s4 s5 (one-builds (terminals.QUOTED ∷ []) s3) (one-builds (terminals.CLOSE ∷ []) s4))))
       (rest-builds es s5 left rest_is)))
 
 -- a reading that ends with no part left has no token left

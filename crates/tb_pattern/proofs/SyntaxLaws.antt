@@ -3,7 +3,7 @@ use Rattle.std.proofs.Common.{◌≡◌, ℕ, zero, suc, Bool, true, false, ◌=
 use Rattle.std.specs.Prelude.{Result, Ok, Err, IfOk, IsTrue}
 use Rattle.tb_token.specs.grammar.Grammar.{Tok}
 use Rattle.tb_token.specs.grammar.LL1.{is_ll1, is_easy, AreGood}
-use Rattle.tb_token.proofs.grammar.LetterLaws.{none-true}
+use Rattle.tb_token.proofs.grammar.TerminalLaws.{none-true}
 use Rattle.tb_token.proofs.grammar.RuleLaws.{calls, Agree, sentence-by, wrong-by}
 use Rattle.tb_token.specs.grammar.Terminals.{name}
 use Rattle.tb_token.specs.grammar.Patterns.{edges_rest, match_query}

@@ -5,12 +5,12 @@ use Rattle.std.proofs.lemmas.Bool.{and_parts}
 use Rattle.tb_token.specs.grammar.Grammar.{Tok, Part, both, maybe, many, has}
 use Rattle.tb_token.specs.grammar.Sentences.{Tree, leaf, nothing, pair, first, second, Derives, at_end, by_one, by_both, by_first, by_second, left_out, put_in, no_more, one_more, by_rule}
 use Rattle.tb_token.specs.grammar.LL1.{are_apart}
-use Rattle.tb_token.proofs.grammar.LetterLaws.{none-true, apart-none}
+use Rattle.tb_token.proofs.grammar.TerminalLaws.{none-true, apart-none}
 use Rattle.tb_token.specs.grammar.Terminals.{comma}
 use Rattle.tb_token.specs.grammar.Patterns.{axis, edges, edge, match_query}
 use Rattle.tb_token.specs.grammar.Queries.{rules}
-use Rattle.tb_token.specs.tokens.LetterNames as letters
-use Rattle.tb_token.specs.tokens.LetterNames.{letters_of}
+use Rattle.tb_token.specs.tokens.TerminalNames as terminals
+use Rattle.tb_token.specs.tokens.TerminalNames.{terminals_of}
 use Rattle.tb_pattern.specs.Faults.{tests_in, tests_of}
 use Rattle.tb_pattern.specs.Plain.{PlainEdges, nodes_in}
 use Rattle.tb_pattern.specs.Value.{edges_in, more_edges_in, edges_from, pattern_of, AskFor}
@@ -19,7 +19,7 @@ use Rattle.tb_pattern.proofs.PartLaws.{Of, of_one, of_both, of_first, of_second,
 -- the axes among the leaves of trees
 
 abbrev axes : Tree → ℕ
-axes (leaf t) = cond (has letters.AXES t.letter) 1 0
+axes (leaf t) = cond (has terminals.AXES t.terminal) 1 0
 axes nothing = 0
 axes (pair v w) = axes v + axes w
 axes (first v) = axes v
@@ -33,9 +33,9 @@ count-one : (b : Bool) (m n : ℕ) → m ≡ n → cond b 1 0 + m ≡ cond b (1 
 count-one true m n e = omega arith
 count-one false m n e = omega arith
 
-axes-derived : {ps : List Part} {vs : List Tree} {s : List Tok} → Derives rules ps vs s → all_axes vs ≡ tests_in (letters_of s)
+axes-derived : {ps : List Part} {vs : List Tree} {s : List Tok} → Derives rules ps vs s → all_axes vs ≡ tests_in (terminals_of s)
 axes-derived at_end = refl
-axes-derived (by_one {t = t} h d) = count-one (has letters.AXES t.letter) _ _ (axes-derived d)
+axes-derived (by_one {t = t} h d) = count-one (has terminals.AXES t.terminal) _ _ (axes-derived d)
 axes-derived (by_both d) = let e = axes-derived d in omega arith
 axes-derived (by_first d) = axes-derived d
 axes-derived (by_second d) = axes-derived d
@@ -44,21 +44,21 @@ axes-derived (put_in d) = axes-derived d
 axes-derived (no_more d) = let e = axes-derived d in omega arith
 axes-derived (one_more d) = let e = axes-derived d in omega arith
 axes-derived (by_rule {t = t} h d) =
-    let e = count-one (has letters.AXES t.letter) _ _ (axes-derived d) in
+    let e = count-one (has terminals.AXES t.terminal) _ _ (axes-derived d) in
     omega arith
 
-quiet-leaf : (c : List ℕ) (t : Tok) → are_apart c letters.AXES ≡ true → has c t.letter ≡ true → axes (leaf t) ≡ 0
-quiet-leaf c t apart h = ap (λ b. cond b 1 0) (apart-none c letters.AXES t.letter apart h)
+quiet-leaf : (c : List ℕ) (t : Tok) → are_apart c terminals.AXES ≡ true → has c t.terminal ≡ true → axes (leaf t) ≡ 0
+quiet-leaf c t apart h = ap (λ b. cond b 1 0) (apart-none c terminals.AXES t.terminal apart h)
 
-quiet-none : {p : Part} {v : Tree} → Of p v → lacks letters.AXES p ≡ true → axes v ≡ 0
+quiet-none : {p : Part} {v : Tree} → Of p v → lacks terminals.AXES p ≡ true → axes v ≡ 0
 quiet-none (of_one {c = c} {t = t} h) e = quiet-leaf c t e h
 quiet-none (of_both {p = p} {q = q} f g) e =
-    let parts = and_parts (lacks letters.AXES p) (lacks letters.AXES q) e in
+    let parts = and_parts (lacks terminals.AXES p) (lacks terminals.AXES q) e in
     let one_is = quiet-none f parts.0 in
     let two_is = quiet-none g parts.1 in
     omega arith
-quiet-none (of_first {p = p} {q = q} f) e = quiet-none f (and_parts (lacks letters.AXES p) (lacks letters.AXES q) e).0
-quiet-none (of_second {p = p} {q = q} f) e = quiet-none f (and_parts (lacks letters.AXES p) (lacks letters.AXES q) e).1
+quiet-none (of_first {p = p} {q = q} f) e = quiet-none f (and_parts (lacks terminals.AXES p) (lacks terminals.AXES q) e).0
+quiet-none (of_second {p = p} {q = q} f) e = quiet-none f (and_parts (lacks terminals.AXES p) (lacks terminals.AXES q) e).1
 quiet-none of_nothing e = refl
 quiet-none (of_put f) e = quiet-none f e
 quiet-none of_none e = refl
@@ -74,7 +74,7 @@ axis-one (of_one h) = ap (λ b. cond b 1 0) h
 mutual
   edges-nodes : {v : Tree} → Of edges v → axes v ≡ nodes_in (edges_in v)
   edges-nodes (of_rule {t = t} h (of_both (of_both {w = more} e more_is) close)) =
-      let opening = quiet-leaf (letters.OPEN ∷ []) t refl h in
+      let opening = quiet-leaf (terminals.OPEN ∷ []) t refl h in
       let closing = quiet-none close refl in
       let others = more-nodes more_is in
       let here = edge-nodes e (more_edges_in more) in

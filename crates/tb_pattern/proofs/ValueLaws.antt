@@ -4,7 +4,7 @@ use Rattle.std.specs.Prelude.{codes}
 use Rattle.tb_token.specs.grammar.Grammar.{Tok}
 use Rattle.tb_token.specs.grammar.Sentences.{Tree, leaf, nothing, pair, first, second}
 use Rattle.tb_token.proofs.grammar.TreeLaws.{one-tree}
-use Rattle.tb_token.specs.tokens.Letters.{letter_of}
+use Rattle.tb_token.specs.tokens.Lexemes.{terminal_of}
 use Rattle.tb_token.specs.grammar.Queries.{rules, follow}
 use Rattle.tb_token.proofs.grammar.QueryLaws.{readable, first-tree}
 use Rattle.tb_token.specs.declared.lexer.token.Kind.{Kind}
@@ -26,7 +26,7 @@ one-pattern s d e es fs one_is two_is =
     )
 
 abbrev tok : Kind → List ℕ → Tree
-tok k bytes = leaf (record { letter = letter_of k bytes; bytes = bytes; number = 0 })
+tok k bytes = leaf (record { terminal = terminal_of k bytes; bytes = bytes; number = 0 })
 
 abbrev sign : List ℕ → Tree
 sign text = tok kind.Sign text

@@ -3,7 +3,7 @@ use Rattle.std.specs.Prelude.{◌≡◌, ℕ, Bool, false, List, [], ◌∷◌, 
 use Rattle.tb_token.specs.grammar.Grammar.{Tok, Part, has}
 use Rattle.tb_token.specs.grammar.Sentences.{Tree, leaf, nothing, Derives}
 use Rattle.tb_token.specs.grammar.Reading.{read}
-use Rattle.tb_token.specs.tokens.Letters.{HaveDigits}
+use Rattle.tb_token.specs.tokens.Lexemes.{HaveDigits}
 use Rattle.tb_token.specs.grammar.Queries.{rules}
 use Rattle.tb_pattern.specs.Faults.{past_behind}
 
@@ -15,10 +15,10 @@ next (t ∷ s) = leaf t
 abbrev pub Next : List Tok → Tree → Type 0
 Next s v = v ≡ next s
 
--- there is a next token, and its letter is among these
+-- there is a next token, and its terminal is among these
 abbrev pub begins : List ℕ → List Tok → Bool
 begins cs [] = false
-begins cs (t ∷ s) = has cs t.letter
+begins cs (t ∷ s) = has cs t.terminal
 
 -- These parts come next and nothing behind them, and no number is past its range, be there a `-`
 -- before the first token or not.

@@ -8,8 +8,8 @@ use Rattle.tb_number.specs.Range.{within_range}
 use Rattle.tb_number.specs.Reading.{integer_of}
 use Rattle.tb_token.specs.grammar.Patterns.{match_query}
 use Rattle.tb_token.specs.grammar.Queries.{rules}
-use Rattle.tb_token.specs.tokens.LetterNames.{is_sign, letters_of}
-use Rattle.tb_token.specs.tokens.LetterNames as letters
+use Rattle.tb_token.specs.tokens.TerminalNames.{is_sign, terminals_of}
+use Rattle.tb_token.specs.tokens.TerminalNames as terminals
 use Rattle.tb_token.specs.tokens.Nesting as nesting
 use Rattle.tb_pattern.specs.Syntax.{AreMatch}
 use Rattle.tb_pattern.specs.declared.fault.PatternFault.{PatternFault}
@@ -18,7 +18,7 @@ use Rattle.tb_pattern.specs.declared.fault.PatternFault.TheVariants.{Syntax, Too
 -- how many tests are written: each has an axis before it, and in a pattern a mark between
 abbrev pub tests_in : List ℕ → ℕ
 tests_in [] = 0
-tests_in (x ∷ xs) = if has letters.AXES x then 1 + tests_in xs else tests_in xs
+tests_in (x ∷ xs) = if has terminals.AXES x then 1 + tests_in xs else tests_in xs
 
 -- digits behind their sign
 abbrev pub with_sign : Bool → List ℕ → List ℕ
@@ -35,25 +35,25 @@ is_none (Some n) = false
 
 -- the token is a number outside the range
 abbrev pub is_past : Bool → ℕ → List ℕ → Bool
-is_past minus x bytes = x == letters.NUMBER && is_none (literal_in minus bytes)
+is_past minus x bytes = x == terminals.NUMBER && is_none (literal_in minus bytes)
 
 -- The first number token whose number, with its sign, is outside the range. Numbers stand in
 -- literals alone, so a `-` directly before one is its sign.
 abbrev pub past_behind : Bool → List Tok → Option ℕ
 past_behind minus [] = None
 past_behind minus (t ∷ s) =
-    if is_past minus t.letter t.bytes then Some t.number
-    else past_behind (is_sign (codes "-") t.letter) s
+    if is_past minus t.terminal t.bytes then Some t.number
+    else past_behind (is_sign (codes "-") t.terminal) s
 
--- The same of tokens, by their letters.
+-- The same of tokens, by their terminals.
 
 -- Somewhere more than 32 brackets are open. In a query these are pattern nodes inside each other
 -- (`nested-levels` of proofs/NestLaws).
 abbrev pub is_too_nested : List Tok → Bool
-is_too_nested s = nesting.is_too_nested (letters.OPEN ∷ []) (letters.CLOSE ∷ []) s
+is_too_nested s = nesting.is_too_nested (terminals.OPEN ∷ []) (terminals.CLOSE ∷ []) s
 
 abbrev pub tests_of : List Tok → ℕ
-tests_of s = tests_in (letters_of s)
+tests_of s = tests_in (terminals_of s)
 
 abbrev pub first_past : List Tok → Option ℕ
 first_past s = past_behind false s

@@ -12,7 +12,7 @@ use Rattle.tb_tree.specs.declared.node_test.Test.{Test}
 use Rattle.tb_tree.specs.declared.node_test.Test.TheVariants as test
 use Rattle.tb_token.specs.grammar.Patterns.{match_query}
 use Rattle.tb_token.specs.grammar.Queries.{rules}
-use Rattle.tb_token.specs.tokens.LetterNames.{is_sign}
+use Rattle.tb_token.specs.tokens.TerminalNames.{is_sign}
 use Rattle.tb_pattern.specs.Plain.{matching, PlainEdges, no_edges, edge}
 use Rattle.tb_pattern.specs.declared.cond.Cond.{Cond}
 use Rattle.tb_pattern.specs.declared.cond.Literal.{Literal}
@@ -20,10 +20,10 @@ use Rattle.tb_pattern.specs.declared.cond.Literal.TheVariants as literal
 use Rattle.tb_pattern.specs.declared.pattern.Mark.{Mark}
 use Rattle.tb_pattern.specs.declared.pattern.Mark.TheVariants as mark
 
--- the letter and the bytes of one token
-abbrev pub letter_in : Tree → ℕ
-letter_in (leaf t) = t.letter
-letter_in _ = 0
+-- the terminal and the bytes of one token
+abbrev pub terminal_in : Tree → ℕ
+terminal_in (leaf t) = t.terminal
+terminal_in _ = 0
 
 abbrev pub bytes_in : Tree → List ℕ
 bytes_in (leaf t) = t.bytes
@@ -40,14 +40,14 @@ inside bytes = take (length bytes - 2) (drop 1 bytes)
 
 -- "/" | "//"
 abbrev pub axis_of : Tree → Axis
-axis_of v = if is_sign (codes "//") (letter_in v) then Descendant else Child
+axis_of v = if is_sign (codes "//") (terminal_in v) then Descendant else Child
 
 -- "-" | "?" | "+" | "*"
 abbrev pub mark_of : Tree → Mark
 mark_of v =
-    if is_sign (codes "?") (letter_in v) then mark.Optional
-    else (if is_sign (codes "+") (letter_in v) then mark.Some
-    else (if is_sign (codes "*") (letter_in v) then mark.Any else mark.One))
+    if is_sign (codes "?") (terminal_in v) then mark.Optional
+    else (if is_sign (codes "+") (terminal_in v) then mark.Some
+    else (if is_sign (codes "*") (terminal_in v) then mark.Any else mark.One))
 
 -- NAME | "*" | "@" ( NAME | "*" ) | TEXT
 abbrev pub test_of : Tree → Test
@@ -60,11 +60,11 @@ test_of _ = test.AnyText
 -- "=" | "!=" | "<" | "<=" | ">" | ">="
 abbrev pub op_of : Tree → CmpOp
 op_of v =
-    if is_sign (codes "!=") (letter_in v) then op.Ne
-    else (if is_sign (codes "<") (letter_in v) then op.Lt
-    else (if is_sign (codes "<=") (letter_in v) then op.Le
-    else (if is_sign (codes ">") (letter_in v) then op.Gt
-    else (if is_sign (codes ">=") (letter_in v) then op.Ge else op.Eq))))
+    if is_sign (codes "!=") (terminal_in v) then op.Ne
+    else (if is_sign (codes "<") (terminal_in v) then op.Lt
+    else (if is_sign (codes "<=") (terminal_in v) then op.Le
+    else (if is_sign (codes ">") (terminal_in v) then op.Gt
+    else (if is_sign (codes ">=") (terminal_in v) then op.Ge else op.Eq))))
 
 -- STRING | [ "-" ] NUMBER
 abbrev pub literal_of : Tree → Literal

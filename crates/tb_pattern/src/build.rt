@@ -15,7 +15,7 @@ use crate::prefix::{axis, begins, behind, mark, quoted};
 use crate::{Edge, PNode, Pattern};
 use std::alloc::{AllocError, Global};
 use tb_token::Lexeme;
-use tb_token::letters::{BANG, COMMA, OPEN};
+use tb_token::terminals::{BANG, COMMA, OPEN};
 use tb_tree::Items;
 
 /// MATCH DOCUMENT "(" STRING ")" "(" edge { "," edge } ")"

@@ -13,7 +13,7 @@ use crate::prefix::{begins, behind, bytes, op, quoted};
 use crate::{Cond, Literal};
 use std::alloc::{AllocError, Global};
 use tb_token::Lexeme;
-use tb_token::letters::{AND, MINUS, OPEN_CONDS, QUOTED};
+use tb_token::terminals::{AND, MINUS, OPEN_CONDS, QUOTED};
 use tb_tree::Items;
 
 /// [ "[" cond { AND cond } "]" ]

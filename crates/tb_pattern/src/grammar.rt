@@ -1,46 +1,46 @@
 //! The grammar of `MATCH` queries as a value, production by production as docs/FORMATS.md has it. A
 //! contract holds it against the grammar of `tb_token`.
 
-use tb_token::{Part, letters};
+use tb_token::{Part, terminals};
 
 // NAME, or any keyword in its place
-pub const NAME: Part = Part::One(letters::NAMES);
+pub const NAME: Part = Part::One(terminals::NAMES);
 
-const NUMBER: Part = Part::One(&[letters::NUMBER]);
+const NUMBER: Part = Part::One(&[terminals::NUMBER]);
 
-pub const STRING: Part = Part::One(&[letters::QUOTED]);
+pub const STRING: Part = Part::One(&[terminals::QUOTED]);
 
-const TEXT: Part = Part::One(&[letters::TEXT_TEST]);
+const TEXT: Part = Part::One(&[terminals::TEXT_TEST]);
 
-const BANG: Part = Part::One(&[letters::BANG]);
+const BANG: Part = Part::One(&[terminals::BANG]);
 
-pub const OPEN: Part = Part::One(&[letters::OPEN]);
+pub const OPEN: Part = Part::One(&[terminals::OPEN]);
 
-pub const CLOSE: Part = Part::One(&[letters::CLOSE]);
+pub const CLOSE: Part = Part::One(&[terminals::CLOSE]);
 
-const OPEN_CONDS: Part = Part::One(&[letters::OPEN_CONDS]);
+const OPEN_CONDS: Part = Part::One(&[terminals::OPEN_CONDS]);
 
-const CLOSE_CONDS: Part = Part::One(&[letters::CLOSE_CONDS]);
+const CLOSE_CONDS: Part = Part::One(&[terminals::CLOSE_CONDS]);
 
-pub const COMMA: Part = Part::One(&[letters::COMMA]);
+pub const COMMA: Part = Part::One(&[terminals::COMMA]);
 
-const AT: Part = Part::One(&[letters::AT]);
+const AT: Part = Part::One(&[terminals::AT]);
 
-const STAR: Part = Part::One(&[letters::STAR]);
+const STAR: Part = Part::One(&[terminals::STAR]);
 
-const MINUS: Part = Part::One(&[letters::MINUS]);
+const MINUS: Part = Part::One(&[terminals::MINUS]);
 
-pub const AND: Part = Part::One(&[letters::AND]);
+pub const AND: Part = Part::One(&[terminals::AND]);
 
-const MATCH: Part = Part::One(&[letters::MATCH]);
+const MATCH: Part = Part::One(&[terminals::MATCH]);
 
-const DOCUMENT: Part = Part::One(&[letters::DOCUMENT]);
+const DOCUMENT: Part = Part::One(&[terminals::DOCUMENT]);
 
-pub const AXIS: Part = Part::One(letters::AXES);
+pub const AXIS: Part = Part::One(terminals::AXES);
 
-const MARK: Part = Part::One(letters::MARKS);
+const MARK: Part = Part::One(terminals::MARKS);
 
-pub const CMP: Part = Part::One(letters::COMPARISONS);
+pub const CMP: Part = Part::One(terminals::COMPARISONS);
 
 // doc = DOCUMENT "(" STRING ")"
 pub const DOC: Part = Part::Both(&DOCUMENT, &Part::Both(&OPEN, &Part::Both(&STRING, &CLOSE)));
@@ -70,7 +70,7 @@ const CONDS: Part = Part::Both(
 );
 
 // edges = "(" and the rest of the edges, which is rule 0
-const EDGES: Part = Part::Opened(&[letters::OPEN], 0);
+const EDGES: Part = Part::Opened(&[terminals::OPEN], 0);
 
 // edge = axis mark test [ conds ] [ "!" ] [ edges ]
 const EDGE: Part = Part::Both(

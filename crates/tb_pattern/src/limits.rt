@@ -7,7 +7,7 @@ ghost use Rattle.tb_pattern.specs.Faults.{literal_in, is_past, first_past};
 use std::alloc::{AllocError, Global};
 use tb_number::IntText;
 use tb_token::Lexeme;
-use tb_token::letters::{AXES, CLOSE, MINUS, NUMBER, OPEN, has};
+use tb_token::terminals::{AXES, CLOSE, MINUS, NUMBER, OPEN, has};
 
 /// Whether more than 32 brackets are open somewhere.
 pub fn is_too_nested(tokens: &[Lexeme]) -> bool
@@ -22,7 +22,7 @@ pub fn tests_in(tokens: &[Lexeme]) -> usize
 {
     let mut tests = 0;
     'tokens: for token in tokens {
-        if has(AXES, token.letter) {
+        if has(AXES, token.terminal) {
             tests += 1;
         }
     }
@@ -38,16 +38,16 @@ pub fn first_past(alloc: Global, tokens: &[Lexeme]) -> Result<Option<u32>, Alloc
         if is_past(alloc, minus, token)? {
             return Ok(Some(token.number));
         }
-        minus = token.letter == MINUS;
+        minus = token.terminal == MINUS;
     }
     Ok(None)
 }
 
 /// Whether the token is a number that is outside the range, behind a `-` or not.
 fn is_past(alloc: Global, minus: bool, token: &Lexeme) -> Result<bool, AllocError>
-    ensures { IfOk result (λ past. past ≡ is_past minus token.now.letter token.now.bytes) }
+    ensures { IfOk result (λ past. past ≡ is_past minus token.now.terminal token.now.bytes) }
 {
-    if token.letter != NUMBER {
+    if token.terminal != NUMBER {
         return Ok(false);
     }
     let number = literal_in(alloc, minus, token.bytes)?;

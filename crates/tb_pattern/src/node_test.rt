@@ -9,7 +9,7 @@ ghost use Rattle.tb_token.specs.grammar.Patterns as part;
 use crate::prefix::{begins, begins_name, behind, bytes};
 use std::alloc::{AllocError, Global};
 use tb_token::Lexeme;
-use tb_token::letters::{AT, STAR};
+use tb_token::terminals::{AT, STAR};
 use tb_tree::{Bytes, Test};
 
 /// NAME | "*" | "@" ( NAME | "*" ) | TEXT

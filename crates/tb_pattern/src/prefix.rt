@@ -3,32 +3,32 @@
 ghost use Rattle.std.specs.Prelude.{◌≡◌, IfOk, drop};
 ghost use Rattle.tb_pattern.specs.Building as built;
 ghost use Rattle.tb_pattern.specs.Value as value;
-ghost use Rattle.tb_token.specs.tokens.LetterNames as letters;
+ghost use Rattle.tb_token.specs.tokens.TerminalNames as terminals;
 
 use crate::Mark;
 use std::alloc::{AllocError, Global};
 use tb_number::CmpOp;
 use tb_span::Axis;
 use tb_token::Lexeme;
-use tb_token::letters::{
+use tb_token::terminals::{
     DOUBLE_SLASH, GREATER, GREATER_OR_EQUAL, LESS, LESS_OR_EQUAL, NAMES, NOT_EQUAL, PLUS, QUESTION,
     STAR, has,
 };
 use tb_tree::Bytes;
 
-/// Whether the next token's letter is among these.
-pub fn begins(tokens: &[Lexeme], letters: &[u8]) -> bool
-    ensures { result ≡ built.begins letters.now tokens.now }
+/// Whether the next token's terminal is among these.
+pub fn begins(tokens: &[Lexeme], terminals: &[u8]) -> bool
+    ensures { result ≡ built.begins terminals.now tokens.now }
 {
     match tokens {
-        [first, ..] => has(letters, first.letter),
+        [first, ..] => has(terminals, first.terminal),
         [] => false,
     }
 }
 
 /// Whether the next token is a name or a keyword.
 pub fn begins_name(tokens: &[Lexeme]) -> bool
-    ensures { result ≡ built.begins letters.NAMES tokens.now }
+    ensures { result ≡ built.begins terminals.NAMES tokens.now }
 {
     begins(tokens, NAMES)
 }
@@ -44,12 +44,12 @@ pub fn behind<'t, 'a>(tokens: &'t [Lexeme<'a>], few: usize) -> &'t [Lexeme<'a>]
     }
 }
 
-/// The letter of the next token, or that of a name where there is none.
-fn letter(tokens: &[Lexeme]) -> u8
-    ensures { result ≡ value.letter_in (built.next tokens.now) }
+/// The terminal of the next token, or that of a name where there is none.
+fn terminal(tokens: &[Lexeme]) -> u8
+    ensures { result ≡ value.terminal_in (built.next tokens.now) }
 {
     match tokens {
-        [first, ..] => first.letter,
+        [first, ..] => first.terminal,
         [] => 0,
     }
 }
@@ -84,7 +84,7 @@ fn between_quotes(bytes: &[u8]) -> &[u8]
 pub fn axis(tokens: &[Lexeme]) -> Axis
     ensures { result ≡ value.axis_of (built.next tokens.now) }
 {
-    if letter(tokens) == DOUBLE_SLASH {
+    if terminal(tokens) == DOUBLE_SLASH {
         Axis::Descendant
     } else {
         Axis::Child
@@ -94,7 +94,7 @@ pub fn axis(tokens: &[Lexeme]) -> Axis
 pub fn mark(tokens: &[Lexeme]) -> Mark
     ensures { result ≡ value.mark_of (built.next tokens.now) }
 {
-    match letter(tokens) {
+    match terminal(tokens) {
         QUESTION => Mark::Optional,
         PLUS => Mark::Some,
         STAR => Mark::Any,
@@ -105,7 +105,7 @@ pub fn mark(tokens: &[Lexeme]) -> Mark
 pub fn op(tokens: &[Lexeme]) -> CmpOp
     ensures { result ≡ value.op_of (built.next tokens.now) }
 {
-    match letter(tokens) {
+    match terminal(tokens) {
         NOT_EQUAL => CmpOp::Ne,
         LESS => CmpOp::Lt,
         LESS_OR_EQUAL => CmpOp::Le,

@@ -2,7 +2,7 @@
 
 ghost use Rattle.std.specs.Prelude.{◌≤◌, length, None};
 ghost use Rattle.tb_token.specs.tokens.Cuts.{IsCut};
-ghost use Rattle.tb_token.specs.tokens.Letters.{toks_of};
+ghost use Rattle.tb_token.specs.tokens.Lexemes.{toks_of};
 ghost use Rattle.tb_pattern.specs.Calls.{Reads};
 
 use crate::build::pattern;

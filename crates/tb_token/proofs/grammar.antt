@@ -1,4 +1,4 @@
-pub mod LetterLaws
+pub mod TerminalLaws
 pub mod FirstLaws
 pub mod SentenceLaws
 pub mod ReadLaws

@@ -5,8 +5,8 @@ pub mod Names
 pub mod Kinds
 pub mod Cuts
 pub mod Calls
-pub mod Letters
-pub mod LetterNames
+pub mod Lexemes
+pub mod TerminalNames
 pub mod Nesting
 pub mod Prefixes
 pub mod Places

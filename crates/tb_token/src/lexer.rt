@@ -3,11 +3,11 @@
 mod bytes;
 pub mod cut;
 pub mod fault;
-mod letter;
-pub mod letters;
 pub mod lexeme;
 mod names;
 pub mod nesting;
 mod prefix;
 mod signs;
+mod terminal;
+pub mod terminals;
 pub mod token;

@@ -33,14 +33,14 @@ pub fn bindings(
     text.extend_from_slice(prefix)?;
     for turn in 0..times {
         text.extend_from_slice(b"LET $")?;
-        text.extend_from_slice(&letters(turn))?;
+        text.extend_from_slice(&terminals(turn))?;
         text.extend_from_slice(b" := document('d')//a ")?;
     }
     text.extend_from_slice(back)?;
     Ok(text)
 }
 
-fn letters(number: u32) -> [u8; 2] {
+fn terminals(number: u32) -> [u8; 2] {
     [b'a' + (number / 26 % 26) as u8, b'a' + (number % 26) as u8]
 }
 

@@ -8,10 +8,10 @@ use Rattle.tb_token.specs.grammar.Reading.{is_never_empty, may_end, first_set_be
 use Rattle.tb_token.specs.grammar.LL1.{AreLL1, AreGood}
 use Rattle.tb_token.specs.grammar.Laws.{PlacesAreRight}
 use Rattle.tb_token.specs.grammar.Places.{Stands, Stops, IsAt, chain, Repeats}
-use Rattle.tb_token.proofs.grammar.LetterLaws.{none-true, has-left, has-right}
+use Rattle.tb_token.proofs.grammar.TerminalLaws.{none-true, has-left, has-right}
 use Rattle.tb_token.proofs.grammar.ReadLaws.{takes-never_empty, read-wrong}
 
--- A letter that no sentence of the part begins with, or none of what may follow where it may be empty.
+-- A terminal that no sentence of the part begins with, or none of what may follow where it may be empty.
 
 not-left : (xs ys : List ℕ) (x : ℕ) → has (xs ++ ys) x ≡ false → has xs x ≡ false
 not-left xs ys x none = by (has xs x) refl
@@ -72,9 +72,9 @@ module _ (rules : Rules) where
   pub read-end : (p : Part) (ps : List Part) → is_never_empty p ≡ true → read rules [] (Some (p ∷ ps)) ≡ Some 0
   read-end p ps never_empty = rw never_empty refl
 
-  pub read-stop : (p : Part) (t : Tok) (u : List Tok) (ps : List Part) → is_never_empty p ≡ true → has (first_set p) t.letter ≡ false → read rules (t ∷ u) (Some (p ∷ ps)) ≡ Some (1 + length u)
+  pub read-stop : (p : Part) (t : Tok) (u : List Tok) (ps : List Part) → is_never_empty p ≡ true → has (first_set p) t.terminal ≡ false → read rules (t ∷ u) (Some (p ∷ ps)) ≡ Some (1 + length u)
   read-stop p t u ps never_empty none =
-      ap (λ o. read rules u o) (takes-never_empty rules p t.letter ps (after rules ps t.letter) None never_empty ∙ takes-none p [] t.letter ps none)
+      ap (λ o. read rules u o) (takes-never_empty rules p t.terminal ps (after rules ps t.terminal) None never_empty ∙ takes-none p [] t.terminal ps none)
 
   pub read-both : (p q : Part) (u : List Tok) (ps : List Part) → read rules u (Some (both p q ∷ ps)) ≡ read rules u (Some (p ∷ q ∷ ps))
   read-both p q [] ps = by (is_never_empty p) (is_never_empty q) (may_end ps)
@@ -84,45 +84,45 @@ module _ (rules : Rules) where
       by false b e = refl
   read-both p q (t ∷ u) ps = refl
 
-  pub read-first : (p q : Part) (t : Tok) (u : List Tok) (ps : List Part) → has (first_set p) t.letter ≡ true → read rules (t ∷ u) (Some (either p q ∷ ps)) ≡ read rules (t ∷ u) (Some (p ∷ ps))
+  pub read-first : (p q : Part) (t : Tok) (u : List Tok) (ps : List Part) → has (first_set p) t.terminal ≡ true → read rules (t ∷ u) (Some (either p q ∷ ps)) ≡ read rules (t ∷ u) (Some (p ∷ ps))
   read-first p q t u ps here =
-      let e : after rules (either p q ∷ ps) t.letter ≡ after rules (p ∷ ps) t.letter = rw here refl in
+      let e : after rules (either p q ∷ ps) t.terminal ≡ after rules (p ∷ ps) t.terminal = rw here refl in
       ap (λ o. read rules u o) e
 
-  pub read-second : (p q : Part) (t : Tok) (u : List Tok) (ps : List Part) → has (first_set p) t.letter ≡ false → read rules (t ∷ u) (Some (either p q ∷ ps)) ≡ read rules (t ∷ u) (Some (q ∷ ps))
+  pub read-second : (p q : Part) (t : Tok) (u : List Tok) (ps : List Part) → has (first_set p) t.terminal ≡ false → read rules (t ∷ u) (Some (either p q ∷ ps)) ≡ read rules (t ∷ u) (Some (q ∷ ps))
   read-second p q t u ps other =
-      let e : after rules (either p q ∷ ps) t.letter ≡ after rules (q ∷ ps) t.letter = rw other refl in
+      let e : after rules (either p q ∷ ps) t.terminal ≡ after rules (q ∷ ps) t.terminal = rw other refl in
       ap (λ o. read rules u o) e
 
-  pub read-put_in : (p : Part) (t : Tok) (u : List Tok) (ps : List Part) → has (first_set p) t.letter ≡ true → read rules (t ∷ u) (Some (maybe p ∷ ps)) ≡ read rules (t ∷ u) (Some (p ∷ ps))
+  pub read-put_in : (p : Part) (t : Tok) (u : List Tok) (ps : List Part) → has (first_set p) t.terminal ≡ true → read rules (t ∷ u) (Some (maybe p ∷ ps)) ≡ read rules (t ∷ u) (Some (p ∷ ps))
   read-put_in p t u ps here =
-      let e : after rules (maybe p ∷ ps) t.letter ≡ after rules (p ∷ ps) t.letter = rw here refl in
+      let e : after rules (maybe p ∷ ps) t.terminal ≡ after rules (p ∷ ps) t.terminal = rw here refl in
       ap (λ o. read rules u o) e
 
-  pub read-left_out : (p : Part) (t : Tok) (u : List Tok) (ps : List Part) → has (first_set p) t.letter ≡ false → read rules (t ∷ u) (Some (maybe p ∷ ps)) ≡ read rules (t ∷ u) (Some ps)
+  pub read-left_out : (p : Part) (t : Tok) (u : List Tok) (ps : List Part) → has (first_set p) t.terminal ≡ false → read rules (t ∷ u) (Some (maybe p ∷ ps)) ≡ read rules (t ∷ u) (Some ps)
   read-left_out p t u ps other =
-      let e : after rules (maybe p ∷ ps) t.letter ≡ after rules ps t.letter = rw other refl in
+      let e : after rules (maybe p ∷ ps) t.terminal ≡ after rules ps t.terminal = rw other refl in
       ap (λ o. read rules u o) e
 
-  pub read-one_more : (p : Part) (t : Tok) (u : List Tok) (ps : List Part) → is_never_empty p ≡ true → has (first_set p) t.letter ≡ true → read rules (t ∷ u) (Some (many p ∷ ps)) ≡ read rules (t ∷ u) (Some (p ∷ many p ∷ ps))
+  pub read-one_more : (p : Part) (t : Tok) (u : List Tok) (ps : List Part) → is_never_empty p ≡ true → has (first_set p) t.terminal ≡ true → read rules (t ∷ u) (Some (many p ∷ ps)) ≡ read rules (t ∷ u) (Some (p ∷ many p ∷ ps))
   read-one_more p t u ps never_empty here =
-      let same = takes-never_empty rules p t.letter (many p ∷ ps) None (after rules (many p ∷ ps) t.letter) never_empty in
-      let e : after rules (many p ∷ ps) t.letter ≡ takes rules p t.letter (many p ∷ ps) None = rw here refl in
+      let same = takes-never_empty rules p t.terminal (many p ∷ ps) None (after rules (many p ∷ ps) t.terminal) never_empty in
+      let e : after rules (many p ∷ ps) t.terminal ≡ takes rules p t.terminal (many p ∷ ps) None = rw here refl in
       ap (λ o. read rules u o) (e ∙ same)
 
-  pub read-no_more : (p : Part) (t : Tok) (u : List Tok) (ps : List Part) → has (first_set p) t.letter ≡ false → read rules (t ∷ u) (Some (many p ∷ ps)) ≡ read rules (t ∷ u) (Some ps)
+  pub read-no_more : (p : Part) (t : Tok) (u : List Tok) (ps : List Part) → has (first_set p) t.terminal ≡ false → read rules (t ∷ u) (Some (many p ∷ ps)) ≡ read rules (t ∷ u) (Some ps)
   read-no_more p t u ps other =
-      let e : after rules (many p ∷ ps) t.letter ≡ after rules ps t.letter = rw other refl in
+      let e : after rules (many p ∷ ps) t.terminal ≡ after rules ps t.terminal = rw other refl in
       ap (λ o. read rules u o) e
 
-  pub read-one : (c : List ℕ) (t : Tok) (u : List Tok) (ps : List Part) → has c t.letter ≡ true → read rules (t ∷ u) (Some (one c ∷ ps)) ≡ read rules u (Some ps)
+  pub read-one : (c : List ℕ) (t : Tok) (u : List Tok) (ps : List Part) → has c t.terminal ≡ true → read rules (t ∷ u) (Some (one c ∷ ps)) ≡ read rules u (Some ps)
   read-one c t u ps here =
-      let e : after rules (one c ∷ ps) t.letter ≡ Some ps = rw here refl in
+      let e : after rules (one c ∷ ps) t.terminal ≡ Some ps = rw here refl in
       ap (λ o. read rules u o) e
 
-  pub read-rule : (c : List ℕ) (n : ℕ) (t : Tok) (u : List Tok) (ps : List Part) → has c t.letter ≡ true → read rules (t ∷ u) (Some (opened c n ∷ ps)) ≡ read rules u (Some (rules n ∷ ps))
+  pub read-rule : (c : List ℕ) (n : ℕ) (t : Tok) (u : List Tok) (ps : List Part) → has c t.terminal ≡ true → read rules (t ∷ u) (Some (opened c n ∷ ps)) ≡ read rules u (Some (rules n ∷ ps))
   read-rule c n t u ps here =
-      let e : after rules (opened c n ∷ ps) t.letter ≡ Some (rules n ∷ ps) = rw here refl in
+      let e : after rules (opened c n ∷ ps) t.terminal ≡ Some (rules n ∷ ps) = rw here refl in
       ap (λ o. read rules u o) e
 
 chain-append : (vs us : List Tree) (w : Tree) → chain (vs ++ us) w ≡ chain vs (chain us w)
@@ -144,7 +144,7 @@ module _ (rules : Rules) (s : List Tok) where
       let n = length-drop at s in
       omega arith
 
-  pub one-stands : (c : List ℕ) (at : ℕ) (t : Tok) → IsAt s at t → has c t.letter ≡ true → Stands rules s (one c) at (at + 1) (leaf t)
+  pub one-stands : (c : List ℕ) (at : ℕ) (t : Tok) → IsAt s at t → has c t.terminal ≡ true → Stands rules s (one c) at (at + 1) (leaf t)
   one-stands c at t here h = record {
     from = omega arith;
     to = let within = here-within at t here in omega arith;
@@ -153,7 +153,7 @@ module _ (rules : Rules) (s : List Tok) where
   }
 
   -- a part that is not nullable stops at a token that it does not begin with
-  pub never_empty-stops : (p : Part) (at : ℕ) (t : Tok) → is_never_empty p ≡ true → IsAt s at t → has (first_set p) t.letter ≡ false → Stops rules s p at at
+  pub never_empty-stops : (p : Part) (at : ℕ) (t : Tok) → is_never_empty p ≡ true → IsAt s at t → has (first_set p) t.terminal ≡ false → Stops rules s p at at
   never_empty-stops p at t never_empty here none =
       let within = here-within at t here in
       let size : 1 + length (drop (at + 1) s) ≡ length s - at = omega (arith, length-drop (at + 1) s) in
@@ -205,7 +205,7 @@ module _ (rules : Rules) (s : List Tok) where
   -- The next token chooses.
 
   module _ (p : Part) (at : ℕ) (t : Tok) (here : IsAt s at t) where
-    pub first-stands : (q : Part) (next : ℕ) (v : Tree) → has (first_set p) t.letter ≡ true → Stands rules s p at next v → Stands rules s (either p q) at next (first v)
+    pub first-stands : (q : Part) (next : ℕ) (v : Tree) → has (first_set p) t.terminal ≡ true → Stands rules s p at next v → Stands rules s (either p q) at next (first v)
     first-stands q next v h is = record {
       from = is.from;
       to = is.to;
@@ -213,14 +213,14 @@ module _ (rules : Rules) (s : List Tok) where
       made = λ ps vs d. by_first (is.made ps vs d);
     }
 
-    pub first-stops : (q : Part) (bad : ℕ) → has (first_set p) t.letter ≡ true → Stops rules s p at bad → Stops rules s (either p q) at bad
+    pub first-stops : (q : Part) (bad : ℕ) → has (first_set p) t.terminal ≡ true → Stops rules s p at bad → Stops rules s (either p q) at bad
     first-stops q bad h stops = record {
       from = stops.from;
       to = stops.to;
       off = λ ps. rw here (read-first rules p q t (drop (at + 1) s) ps h) ∙ stops.off ps;
     }
 
-    pub second-stands : (q : Part) (next : ℕ) (v : Tree) → has (first_set p) t.letter ≡ false → Stands rules s q at next v → Stands rules s (either p q) at next (second v)
+    pub second-stands : (q : Part) (next : ℕ) (v : Tree) → has (first_set p) t.terminal ≡ false → Stands rules s q at next v → Stands rules s (either p q) at next (second v)
     second-stands q next v h is = record {
       from = is.from;
       to = is.to;
@@ -228,14 +228,14 @@ module _ (rules : Rules) (s : List Tok) where
       made = λ ps vs d. by_second (is.made ps vs d);
     }
 
-    pub second-stops : (q : Part) (bad : ℕ) → has (first_set p) t.letter ≡ false → Stops rules s q at bad → Stops rules s (either p q) at bad
+    pub second-stops : (q : Part) (bad : ℕ) → has (first_set p) t.terminal ≡ false → Stops rules s q at bad → Stops rules s (either p q) at bad
     second-stops q bad h stops = record {
       from = stops.from;
       to = stops.to;
       off = λ ps. rw here (read-second rules p q t (drop (at + 1) s) ps h) ∙ stops.off ps;
     }
 
-    pub put_in-stands : (next : ℕ) (v : Tree) → has (first_set p) t.letter ≡ true → Stands rules s p at next v → Stands rules s (maybe p) at next v
+    pub put_in-stands : (next : ℕ) (v : Tree) → has (first_set p) t.terminal ≡ true → Stands rules s p at next v → Stands rules s (maybe p) at next v
     put_in-stands next v h is = record {
       from = is.from;
       to = is.to;
@@ -243,14 +243,14 @@ module _ (rules : Rules) (s : List Tok) where
       made = λ ps vs d. put_in (is.made ps vs d);
     }
 
-    pub put_in-stops : (bad : ℕ) → has (first_set p) t.letter ≡ true → Stops rules s p at bad → Stops rules s (maybe p) at bad
+    pub put_in-stops : (bad : ℕ) → has (first_set p) t.terminal ≡ true → Stops rules s p at bad → Stops rules s (maybe p) at bad
     put_in-stops bad h stops = record {
       from = stops.from;
       to = stops.to;
       off = λ ps. rw here (read-put_in rules p t (drop (at + 1) s) ps h) ∙ stops.off ps;
     }
 
-    pub left_out-stands : has (first_set p) t.letter ≡ false → Stands rules s (maybe p) at at nothing
+    pub left_out-stands : has (first_set p) t.terminal ≡ false → Stands rules s (maybe p) at at nothing
     left_out-stands h = record {
       from = omega arith;
       to = let within = here-within at t here in omega arith;
@@ -258,7 +258,7 @@ module _ (rules : Rules) (s : List Tok) where
       made = λ ps vs d. left_out d;
     }
 
-    pub no_more-stands : has (first_set p) t.letter ≡ false → Stands rules s (many p) at at nothing
+    pub no_more-stands : has (first_set p) t.terminal ≡ false → Stands rules s (many p) at at nothing
     no_more-stands h = record {
       from = omega arith;
       to = let within = here-within at t here in omega arith;
@@ -266,14 +266,14 @@ module _ (rules : Rules) (s : List Tok) where
       made = λ ps vs d. no_more d;
     }
 
-    pub one_more-stops : (bad : ℕ) → is_never_empty p ≡ true → has (first_set p) t.letter ≡ true → Stops rules s p at bad → Stops rules s (many p) at bad
+    pub one_more-stops : (bad : ℕ) → is_never_empty p ≡ true → has (first_set p) t.terminal ≡ true → Stops rules s p at bad → Stops rules s (many p) at bad
     one_more-stops bad never_empty h stops = record {
       from = stops.from;
       to = stops.to;
       off = λ ps. rw here (read-one_more rules p t (drop (at + 1) s) ps never_empty h) ∙ stops.off (many p ∷ ps);
     }
 
-    pub one_more-repeats : (next : ℕ) (v : Tree) → is_never_empty p ≡ true → has (first_set p) t.letter ≡ true → Stands rules s p at next v → Repeats rules s p at next (v ∷ [])
+    pub one_more-repeats : (next : ℕ) (v : Tree) → is_never_empty p ≡ true → has (first_set p) t.terminal ≡ true → Stands rules s p at next v → Repeats rules s p at next (v ∷ [])
     one_more-repeats next v never_empty h is = record {
       from = is.from;
       to = is.to;
@@ -297,7 +297,7 @@ module _ (rules : Rules) (s : List Tok) where
     made = λ ps vs d. no_more d;
   }
 
-  pub rule-stands : (c : List ℕ) (n at next : ℕ) (t : Tok) (v : Tree) → IsAt s at t → has c t.letter ≡ true → Stands rules s (rules n) (at + 1) next v → Stands rules s (opened c n) at next (pair (leaf t) v)
+  pub rule-stands : (c : List ℕ) (n at next : ℕ) (t : Tok) (v : Tree) → IsAt s at t → has c t.terminal ≡ true → Stands rules s (rules n) (at + 1) next v → Stands rules s (opened c n) at next (pair (leaf t) v)
   rule-stands c n at next t v here h is = record {
     from = let low = is.from in omega arith;
     to = is.to;
@@ -305,7 +305,7 @@ module _ (rules : Rules) (s : List Tok) where
     made = λ ps vs d. rw here (by_rule h (is.made ps vs d));
   }
 
-  pub rule-stops : (c : List ℕ) (n at bad : ℕ) (t : Tok) → IsAt s at t → has c t.letter ≡ true → Stops rules s (rules n) (at + 1) bad → Stops rules s (opened c n) at bad
+  pub rule-stops : (c : List ℕ) (n at bad : ℕ) (t : Tok) → IsAt s at t → has c t.terminal ≡ true → Stops rules s (rules n) (at + 1) bad → Stops rules s (opened c n) at bad
   rule-stops c n at bad t here h stops = record {
     from = let low = stops.from in omega arith;
     to = stops.to;

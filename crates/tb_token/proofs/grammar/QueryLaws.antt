@@ -9,7 +9,7 @@ use Rattle.tb_token.specs.grammar.Patterns.{doc}
 use Rattle.tb_token.specs.grammar.Paths.{step}
 use Rattle.tb_token.specs.grammar.Queries.{rules, follow}
 use Rattle.tb_token.specs.grammar.QueryLaws.{IsReadable, AreOneQuery, IsWrittenPath}
-use Rattle.tb_token.specs.tokens.LetterNames as letters
+use Rattle.tb_token.specs.tokens.TerminalNames as terminals
 
 rules-ll1 : (n : ℕ) → is_ll1 follow (follow n) (rules n) ≡ true
 rules-ll1 zero = refl
@@ -77,5 +77,5 @@ module _ (rules : Rules) (p q : Part) (c : List ℕ) (ps : List Part) where
 
 pub is-written_path : IsWrittenPath
 is-written_path ps s =
-    let c = letters.VARIABLE ∷ [] in
+    let c = terminals.VARIABLE ∷ [] in
     (λ sentence. ll1-written rules doc step c ps sentence.1, λ sentence. written-ll1 rules doc step c ps sentence.1)

@@ -7,7 +7,7 @@ use Rattle.tb_token.specs.grammar.LL1.{is_ll1}
 use Rattle.tb_token.specs.tokens.Bytes.{is_blank}
 use Rattle.tb_token.specs.tokens.Prefixes.{prefix_of}
 use Rattle.tb_token.specs.tokens.Cuts.{token}
-use Rattle.tb_token.specs.tokens.Letters.{toks_of}
+use Rattle.tb_token.specs.tokens.Lexemes.{toks_of}
 use Rattle.tb_token.specs.grammar.Patterns.{match_query}
 use Rattle.tb_token.specs.grammar.Paths.{written_path}
 use Rattle.tb_token.specs.grammar.Queries.{rules, follow, query}

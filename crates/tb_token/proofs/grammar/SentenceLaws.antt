@@ -5,7 +5,7 @@ use Rattle.tb_token.specs.grammar.Grammar.{Tok, Part, one, both, either, maybe, 
 use Rattle.tb_token.specs.grammar.Sentences.{Tree, leaf, nothing, pair, first, second, Derives, at_end, by_one, by_both, by_first, by_second, left_out, put_in, no_more, one_more, by_rule, AreSentence}
 use Rattle.tb_token.specs.grammar.Reading.{is_never_empty, may_end, first_set_before, first_set}
 use Rattle.tb_token.specs.grammar.LL1.{all_in, are_apart, is_some, first_set_of_all, is_ll1, AreLL1, AreGood, is_easy}
-use Rattle.tb_token.proofs.grammar.LetterLaws.{none-true, has-left, has-right, within-all_in, and-three, and-five, and-false, has-first}
+use Rattle.tb_token.proofs.grammar.TerminalLaws.{none-true, has-left, has-right, within-all_in, and-three, and-five, and-false, has-first}
 use Rattle.tb_token.proofs.grammar.FirstLaws.{first_set_before-never_empty, ll1-within}
 
 module _ (rules : Rules) (follow : ℕ → List ℕ) (good : AreGood rules follow) where
@@ -56,27 +56,27 @@ module _ (rules : Rules) (follow : ℕ → List ℕ) (good : AreGood rules follo
       let parts = and-three (is_never_empty p) (are_apart (first_set p) (first_set_of_all ps)) (is_ll1 follow (first_set_before (many p) (first_set_of_all ps)) p) d.0 in
       (parts.0, parts.1)
 
-  -- the first token's letter is one that the parts begin with
-  pub sentence-first_set_before : {ps : List Part} {vs : List Tree} {t : Tok} {s : List Tok} → AreLL1 follow ps → Derives rules ps vs (t ∷ s) → has (first_set_of_all ps) t.letter ≡ true
+  -- the first token's terminal is one that the parts begin with
+  pub sentence-first_set_before : {ps : List Part} {vs : List Tree} {t : Tok} {s : List Tok} → AreLL1 follow ps → Derives rules ps vs (t ∷ s) → has (first_set_of_all ps) t.terminal ≡ true
   sentence-first_set_before d (by_one h w) = h
   sentence-first_set_before d (by_both {p = p} {q = q} {ps = ps} w) = sentence-first_set_before (both-ll1 p q ps d) w
   sentence-first_set_before {t = t} d (by_first {p = p} {q = q} {ps = ps} w) =
-      has-left (first_set_before p (first_set_of_all ps)) (first_set_before q (first_set_of_all ps)) t.letter (sentence-first_set_before (first-ll1 p q ps d) w)
+      has-left (first_set_before p (first_set_of_all ps)) (first_set_before q (first_set_of_all ps)) t.terminal (sentence-first_set_before (first-ll1 p q ps d) w)
   sentence-first_set_before {t = t} d (by_second {p = p} {q = q} {ps = ps} w) =
-      has-right (first_set_before p (first_set_of_all ps)) (first_set_before q (first_set_of_all ps)) t.letter (sentence-first_set_before (second-ll1 p q ps d) w)
+      has-right (first_set_before p (first_set_of_all ps)) (first_set_before q (first_set_of_all ps)) t.terminal (sentence-first_set_before (second-ll1 p q ps d) w)
   sentence-first_set_before {t = t} d (left_out {p = p} {ps = ps} w) =
-      has-right (first_set_before p (first_set_of_all ps)) (first_set_of_all ps) t.letter (sentence-first_set_before d.1 w)
+      has-right (first_set_before p (first_set_of_all ps)) (first_set_of_all ps) t.terminal (sentence-first_set_before d.1 w)
   sentence-first_set_before {t = t} d (put_in {p = p} {ps = ps} w) =
-      has-left (first_set_before p (first_set_of_all ps)) (first_set_of_all ps) t.letter (sentence-first_set_before (maybe-ll1 p ps d) w)
+      has-left (first_set_before p (first_set_of_all ps)) (first_set_of_all ps) t.terminal (sentence-first_set_before (maybe-ll1 p ps d) w)
   sentence-first_set_before {t = t} d (no_more {p = p} {ps = ps} w) =
-      has-right (first_set_before p (first_set_of_all ps)) (first_set_of_all ps) t.letter (sentence-first_set_before d.1 w)
+      has-right (first_set_before p (first_set_of_all ps)) (first_set_of_all ps) t.terminal (sentence-first_set_before d.1 w)
   sentence-first_set_before {t = t} d (one_more {p = p} {ps = ps} w) =
       let same = first_set_before-never_empty p (first_set_before (many p) (first_set_of_all ps)) (first_set_of_all ps) (many-never_empty p ps d).0 in
-      has-left (first_set_before p (first_set_of_all ps)) (first_set_of_all ps) t.letter (rw same at (sentence-first_set_before (many-ll1 p ps d) w))
+      has-left (first_set_before p (first_set_of_all ps)) (first_set_of_all ps) t.terminal (rw same at (sentence-first_set_before (many-ll1 p ps d) w))
   sentence-first_set_before d (by_rule h w) = h
 
   -- the first token of a part that is not nullable is its own
-  pub first_set-first_set_before : {p : Part} {ps : List Part} {vs : List Tree} {t : Tok} {s : List Tok} → AreLL1 follow (p ∷ ps) → is_never_empty p ≡ true → Derives rules (p ∷ ps) vs (t ∷ s) → has (first_set p) t.letter ≡ true
+  pub first_set-first_set_before : {p : Part} {ps : List Part} {vs : List Tree} {t : Tok} {s : List Tok} → AreLL1 follow (p ∷ ps) → is_never_empty p ≡ true → Derives rules (p ∷ ps) vs (t ∷ s) → has (first_set p) t.terminal ≡ true
   first_set-first_set_before {p = p} {ps = ps} d never_empty w =
       let same = first_set_before-never_empty p (first_set_of_all ps) [] never_empty in
       rw same at (sentence-first_set_before d w)
@@ -130,7 +130,7 @@ trees-length (by_rule h w) = trees-length w
 -- The ways of a derivation, for sentences whose trees are not told.
 
 module _ (rules : Rules) where
-  pub sentence-one : (c : List ℕ) (t : Tok) (ps : List Part) (s : List Tok) → has c t.letter ≡ true → AreSentence rules ps s → AreSentence rules (one c ∷ ps) (t ∷ s)
+  pub sentence-one : (c : List ℕ) (t : Tok) (ps : List Part) (s : List Tok) → has c t.terminal ≡ true → AreSentence rules ps s → AreSentence rules (one c ∷ ps) (t ∷ s)
   sentence-one c t ps s h sentence = (leaf t ∷ sentence.0, by_one h sentence.1)
 
   pub sentence-both : (p q : Part) (ps : List Part) (s : List Tok) → AreSentence rules (p ∷ q ∷ ps) s → AreSentence rules (both p q ∷ ps) s
@@ -176,7 +176,7 @@ module _ (rules : Rules) where
       by (v ∷ []) w = let e = trees-length w in absurd (omega arith)
       by (v ∷ u ∷ vs) w = (pair v u ∷ vs, one_more w)
 
-  pub sentence-rule : (c : List ℕ) (n : ℕ) (t : Tok) (ps : List Part) (s : List Tok) → has c t.letter ≡ true → AreSentence rules (rules n ∷ ps) s → AreSentence rules (opened c n ∷ ps) (t ∷ s)
+  pub sentence-rule : (c : List ℕ) (n : ℕ) (t : Tok) (ps : List Part) (s : List Tok) → has c t.terminal ≡ true → AreSentence rules (rules n ∷ ps) s → AreSentence rules (opened c n ∷ ps) (t ∷ s)
   sentence-rule c n t ps s h sentence = by sentence.0 sentence.1
     where
       by : (vs : List Tree) → Derives rules (rules n ∷ ps) vs s → AreSentence rules (opened c n ∷ ps) (t ∷ s)
@@ -208,7 +208,7 @@ module _ (rules : Rules) (follow : ℕ → List ℕ) (good : AreGood rules follo
   HasSentence ps = (s : List Tok) × AreSentence rules ps s
 
   abbrev a_token : ℕ → Tok
-  a_token c = record { letter = c; bytes = []; number = 0 }
+  a_token c = record { terminal = c; bytes = []; number = 0 }
 
   one-never_empty : (c : List ℕ) (ps : List Part) → is_some c ≡ true → HasSentence ps → HasSentence (one c ∷ ps)
   one-never_empty [] ps some have = none-true false refl some

@@ -5,7 +5,7 @@ use Rattle.tb_token.specs.grammar.Grammar.{Tok, Part, either, maybe, many, Rules
 use Rattle.tb_token.specs.grammar.Sentences.{Tree, leaf, nothing, pair, first, second, Derives, at_end, by_one, by_both, by_first, by_second, left_out, put_in, no_more, one_more, by_rule, IsWrongAt}
 use Rattle.tb_token.specs.grammar.Reading.{is_never_empty, first_set}
 use Rattle.tb_token.specs.grammar.LL1.{are_apart, first_set_of_all, AreLL1, AreGood}
-use Rattle.tb_token.proofs.grammar.LetterLaws.{none-true, apart-none}
+use Rattle.tb_token.proofs.grammar.TerminalLaws.{none-true, apart-none}
 use Rattle.tb_token.proofs.grammar.SentenceLaws.{both-ll1, first-ll1, second-ll1, maybe-ll1, many-ll1, rule-ll1, either-never_empty, maybe-never_empty, many-never_empty, sentence-first_set_before, first_set-first_set_before, never_empty-takes}
 
 pair-same : (v w v' w' : Tree) (vs ws : List Tree) → (v ∷ w ∷ vs) ≡ (v' ∷ w' ∷ ws) → (pair v w ∷ vs) ≡ (pair v' w' ∷ ws)
@@ -28,7 +28,7 @@ module _ (rules : Rules) (follow : ℕ → List ℕ) (good : AreGood rules follo
       let never_empty = either-never_empty rules follow good p q ps d in
       let here = first_set-first_set_before rules follow good (first-ll1 rules follow good p q ps d) never_empty.0 one_is in
       let there = first_set-first_set_before rules follow good (second-ll1 rules follow good p q ps d) never_empty.1 two_is in
-      none-true (has (first_set q) t.letter) (apart-none (first_set p) (first_set q) t.letter never_empty.2 here) there
+      none-true (has (first_set q) t.terminal) (apart-none (first_set p) (first_set q) t.terminal never_empty.2 here) there
 
   -- nor do a part and what is behind it
   apart-by : {p : Part} {ps qs : List Part} {vs ws : List Tree} (s : List Tok) → AreLL1 follow (p ∷ qs) → AreLL1 follow ps → is_never_empty p ≡ true → are_apart (first_set p) (first_set_of_all ps) ≡ true
@@ -37,7 +37,7 @@ module _ (rules : Rules) (follow : ℕ → List ℕ) (good : AreGood rules follo
   apart-by {p = p} {ps = ps} (t ∷ s) d e never_empty apart one_is two_is =
       let here = first_set-first_set_before rules follow good d never_empty one_is in
       let there = sentence-first_set_before rules follow good e two_is in
-      none-true (has (first_set_of_all ps) t.letter) (apart-none (first_set p) (first_set_of_all ps) t.letter apart here) there
+      none-true (has (first_set_of_all ps) t.terminal) (apart-none (first_set p) (first_set_of_all ps) t.terminal apart here) there
 
   maybe-apart : {p : Part} {ps : List Part} {vs ws : List Tree} (s : List Tok) → AreLL1 follow (maybe p ∷ ps) → Derives rules (p ∷ ps) vs s → Derives rules ps ws s → ⊥
   maybe-apart {p = p} {ps = ps} s d one_is two_is =

@@ -1,10 +1,10 @@
--- Rows worked out by hand: a list of letters in parentheses, `( a , a )`, in which such lists may stand.
+-- Rows worked out by hand: a list of terminals in parentheses, `( a , a )`, in which such lists may stand.
 use Rattle.std.proofs.Common.{◌≡◌, ℕ, false, List, [], ◌∷◌, map, Some, None, refl}
 use Rattle.tb_token.specs.grammar.Grammar.{Tok, Part, one, both, either, many, opened, Rules, row}
 use Rattle.tb_token.specs.grammar.Reading.{read}
 use Rattle.tb_token.specs.grammar.LL1.{is_ll1, AreLL1, AreGood}
 
--- the letters 1 `(`, 2 `)`, 3 `,`, 4 `a`
+-- the terminals 1 `(`, 2 `)`, 3 `,`, 4 `a`
 abbrev nested : Part
 nested = opened (1 ∷ []) 0
 
@@ -24,7 +24,7 @@ pub nested-ll1 : AreLL1 follow (nested ∷ [])
 nested-ll1 = (refl, tt)
 
 abbrev toks : List ℕ → List Tok
-toks letters = map (λ x. record { letter = x; bytes = []; number = 0 }) letters
+toks terminals = map (λ x. record { terminal = x; bytes = []; number = 0 }) terminals
 
 -- `( a , ( a ) )`
 pub read-sentence : read rules (toks (1 ∷ 4 ∷ 3 ∷ 1 ∷ 4 ∷ 2 ∷ 2 ∷ [])) (Some (nested ∷ [])) ≡ None

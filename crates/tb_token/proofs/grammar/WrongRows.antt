@@ -11,24 +11,24 @@ use Rattle.tb_token.specs.grammar.Queries.{rules, follow, query}
 use Rattle.tb_token.proofs.grammar.QueryLaws.{readable}
 use Rattle.tb_token.proofs.grammar.QueryRows.{toks, wrong_at}
 
--- the letters that a part names
-abbrev letters : Part → List ℕ
-letters (one c) = c
-letters (both p q) = letters p ++ letters q
-letters (either p q) = letters p ++ letters q
-letters (maybe p) = letters p
-letters (many p) = letters p
-letters (opened c n) = c
+-- the terminals that a part names
+abbrev terminals : Part → List ℕ
+terminals (one c) = c
+terminals (both p q) = terminals p ++ terminals q
+terminals (either p q) = terminals p ++ terminals q
+terminals (maybe p) = terminals p
+terminals (many p) = terminals p
+terminals (opened c n) = c
 
--- some token has the letter
-abbrev is_letter : ℕ → Bool
-is_letter x =
+-- some token has the terminal
+abbrev is_terminal : ℕ → Bool
+is_terminal x =
     nat_lt x 5 || (nat_le 8 x && nat_lt x (8 + length signs))
     || (nat_le 64 x && nat_lt x (64 + length keywords))
 
 -- so no text of a keyword or of a sign is misspelt in the grammar
-pub letters-known : list_all is_letter (letters query ++ letters (rules 0) ++ letters (rules 1)) ≡ true
-letters-known = refl
+pub terminals-known : list_all is_terminal (terminals query ++ terminals (rules 0) ++ terminals (rules 1)) ≡ true
+terminals-known = refl
 
 -- what a row says, in the words of the definitions
 pub stands-wrong : IsWrongAt rules (query ∷ []) (toks (codes "FOR $x IN $y RETURN $x")) 5

@@ -9,7 +9,7 @@ use Rattle.tb_token.specs.declared.lexer.token.Kind.TheVariants.{Name, Word, Var
 use Rattle.tb_token.specs.declared.lexer.token.Token.{Token}
 use Rattle.tb_token.specs.declared.lexer.fault.LexFault.{LexFault}
 use Rattle.tb_token.proofs.lexing.KindLaws.{kind_class, blank-class, quote-class, token-some, kind-unique}
-use Rattle.tb_token.proofs.grammar.LetterLaws.{none-true}
+use Rattle.tb_token.proofs.grammar.TerminalLaws.{none-true}
 use Rattle.tb_token.proofs.lexing.PrefixLaws.{token-prefix}
 
 -- a token has a byte

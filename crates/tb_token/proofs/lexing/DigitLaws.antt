@@ -1,16 +1,16 @@
--- The tokens of a cut that have the letter of a number are digits.
+-- The tokens of a cut that have the terminal of a number are digits.
 use Rattle.std.proofs.Common.{◌≡◌, ℕ, ◌+◌, ◌-◌, true, List, [], take, drop, Option, refl, sym, ap, ◌∙◌, arith, drop-drop}
 use Rattle.tb_token.specs.tokens.Kinds.{is_token, is_number}
 use Rattle.tb_token.specs.tokens.Cuts.{AreCut, at_end, behind_blank, behind_token, at_byte, at_quote, token, IsCut}
-use Rattle.tb_token.specs.tokens.Letters.{letter_of, bytes_of, toks_from, toks_of, HaveDigits}
+use Rattle.tb_token.specs.tokens.Lexemes.{terminal_of, bytes_of, toks_from, toks_of, HaveDigits}
 use Rattle.tb_token.specs.declared.lexer.token.Kind.{Kind}
 use Rattle.tb_token.specs.declared.lexer.token.Kind.TheVariants.{Name, Word, Variable, Number, Quoted, TextTest, Sign}
 use Rattle.tb_token.specs.declared.lexer.token.Token.{Token}
 use Rattle.tb_token.specs.declared.lexer.fault.LexFault.{LexFault}
-use Rattle.tb_token.specs.tokens.LetterNames as letters
+use Rattle.tb_token.specs.tokens.TerminalNames as terminals
 
--- no other kind has the letter of a number
-number-digits : (k : Kind) (bytes : List ℕ) → is_token k bytes ≡ true → letter_of k bytes ≡ letters.NUMBER → is_number bytes ≡ true
+-- no other kind has the terminal of a number
+number-digits : (k : Kind) (bytes : List ℕ) → is_token k bytes ≡ true → terminal_of k bytes ≡ terminals.NUMBER → is_number bytes ≡ true
 number-digits Name bytes is e = absurd (omega (arith, e))
 number-digits Word bytes is e = absurd (omega (arith, e))
 number-digits Variable bytes is e = absurd (omega (arith, e))
@@ -26,7 +26,7 @@ module _ (text : List ℕ) where
   digits-cut n (behind_token {at = at} {bytes = bytes} k size l d) e =
       let few : at + size - at ≡ size = omega arith in
       let same : bytes_of text (token k at (at + size)) ≡ take size bytes = rw (few, e) refl in (
-        λ letter. rw (sym same) at (number-digits k (take size bytes) l.is (rw same at letter)),
+        λ terminal. rw (sym same) at (number-digits k (take size bytes) l.is (rw same at terminal)),
         digits-cut (n + 1) d (ap (λ s. drop size s) e ∙ drop-drop size at text),
       )
   digits-cut n (at_byte _ _ _) e = tt

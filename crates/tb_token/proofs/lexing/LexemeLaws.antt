@@ -3,7 +3,7 @@ use Rattle.std.proofs.Common.{◌≡◌, ℕ, suc, ◌+◌, ◌<◌, ◌≤◌, 
 use Rattle.std.proofs.lemmas.List.{drop_more, drop_all}
 use Rattle.tb_token.specs.grammar.Grammar.{Tok}
 use Rattle.tb_token.specs.tokens.Calls.{Rise}
-use Rattle.tb_token.specs.tokens.Letters.{tok_of, toks_from, toks_of}
+use Rattle.tb_token.specs.tokens.Lexemes.{tok_of, toks_from, toks_of}
 use Rattle.tb_token.specs.declared.lexer.token.Token.{Token}
 use Rattle.tb_token.specs.declared.lexer.token.Kind.TheVariants.{Name}
 

@@ -16,7 +16,7 @@ use Rattle.tb_token.specs.tokens.Prefixes.{Finds, found, rest_len, begins_text_t
 use Rattle.tb_token.specs.declared.lexer.token.Kind.{Kind}
 use Rattle.tb_token.specs.declared.lexer.token.Kind.TheVariants.{Name, Word, Variable, Number, Quoted, TextTest, Sign}
 use Rattle.tb_token.specs.declared.lexer.prefix.Prefix.{Prefix}
-use Rattle.tb_token.proofs.grammar.LetterLaws.{none-true}
+use Rattle.tb_token.proofs.grammar.TerminalLaws.{none-true}
 use Rattle.tb_token.proofs.lexing.AmongLaws.{or-by, among-passes}
 use Rattle.tb_token.proofs.lexing.KindLaws.{class_of, kind_class, name-class, digit-class, quote-class, dollar-class, token-class, token-some, keyword-name}
 use Rattle.tb_token.proofs.lexing.SizeLaws.{all-prefix, all-most, rest-le, name-prefix, name-most, inside, closed-at, closed-prefix}

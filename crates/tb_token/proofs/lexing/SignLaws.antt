@@ -6,7 +6,7 @@ use Rattle.std.proofs.lemmas.Bool.Decides.{nat_tests}
 use Rattle.tb_token.specs.tokens.Names.{is_among}
 use Rattle.tb_token.specs.tokens.Kinds.{signs}
 use Rattle.tb_token.specs.tokens.Prefixes.{is_pair, is_single}
-use Rattle.tb_token.proofs.grammar.LetterLaws.{and-false}
+use Rattle.tb_token.proofs.grammar.TerminalLaws.{and-false}
 use Rattle.tb_token.proofs.lexing.AmongLaws.{among-passes}
 
 and-true : (x : Bool) → (x && true) ≡ x

@@ -8,7 +8,7 @@ or-none : (a : Bool) → a ≡ (a || false)
 or-none true = refl
 or-none false = refl
 
--- Below, a and b say whether a part begins with the letter, f and g whether it is never empty.
+-- Below, a and b say whether a part begins with the terminal, f and g whether it is never empty.
 
 in_turn : (a f b g c : Bool) → (a || (not f && (b || (not g && c)))) ≡ ((a || (not f && b)) || (not (f || g) && c))
 in_turn true f b g c = refl

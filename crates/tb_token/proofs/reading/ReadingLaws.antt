@@ -19,12 +19,12 @@ module _ (rules : Rules) (p : Part) (s : List Tok) where
       let same : length s - left + 1 ≡ k = omega arith in
       rw same at (read-wrong rules follow good s (p ∷ []) left ll1 e)
 
-  module _ (at : ℕ) (ps : List Part) (going : Going at ps) (within : at < length s) (t : Tok) (is : t ≡ get_or s at t) (x : ℕ) (letter : x ≡ t.letter) where
+  module _ (at : ℕ) (ps : List Part) (going : Going at ps) (within : at < length s) (t : Tok) (is : t ≡ get_or s at t) (x : ℕ) (terminal : x ≡ t.terminal) where
     here : drop at s ≡ t ∷ drop (at + 1) s
     here = drop_more s at t within ∙ ap (λ u. u ∷ drop (at + 1) s) (sym is)
 
     read-here : read rules (drop (at + 1) s) (after rules ps x) ≡ read rules s (Some (p ∷ []))
-    read-here = ap (λ y. read rules (drop (at + 1) s) (after rules ps y)) letter ∙ ap (λ u. read rules u (Some ps)) (sym here) ∙ going
+    read-here = ap (λ y. read rules (drop (at + 1) s) (after rules ps y)) terminal ∙ ap (λ u. read rules u (Some ps)) (sym here) ∙ going
 
     pub going-next : (qs : List Part) → after rules ps x ≡ Some qs → Going (at + 1) qs
     going-next qs e = ap (λ o. read rules (drop (at + 1) s) o) (sym e) ∙ read-here

@@ -22,7 +22,7 @@ has-append (y ∷ xs) ys x = ap (λ b. y == x || b) (has-append xs ys x) ∙ by 
     by true b c = refl
     by false b c = refl
 
--- a part begins with the letter where it is in its FIRST
+-- a part begins with the terminal where it is in its FIRST
 pub begins-first_set_before : (p : grammar.Part) (xs : List ℕ) (x : ℕ) → begins_by p x (has xs x) ≡ has (first_set_before p xs) x
 begins-first_set_before (one c) xs x = refl
 begins-first_set_before (both p q) xs x = ap (λ b. begins_by p x b) (begins-first_set_before q xs x) ∙ begins-first_set_before p (first_set_before q xs) x

@@ -4,7 +4,7 @@ use Rattle.std.specs.Prelude.{IsSome, option_to_list}
 use Rattle.std.specs.Borrow.{Bor}
 use Rattle.tb_token.specs.grammar.Grammar as grammar
 use Rattle.tb_token.specs.grammar.Grammar.{has, Rules}
-use Rattle.tb_token.proofs.grammar.LetterLaws.{none-true}
+use Rattle.tb_token.proofs.grammar.TerminalLaws.{none-true}
 use Rattle.tb_token.specs.reading.View.{part_of}
 use Rattle.tb_token.specs.reading.Machine.{begins_by, Step, taken, passed, stuck, or_else, step}
 use Rattle.tb_token.specs.reading.Stack.{parts_in, HasTaken, is_passed, of_more}

@@ -3,7 +3,7 @@ use Rattle.std.proofs.Common.{◌≡◌, true, false, [], ◌∷◌, refl}
 use Rattle.tb_token.specs.grammar.Grammar.{Part, one, both, maybe, many, opened, Rules}
 use Rattle.tb_token.specs.reading.Machine.{begins_by, taken, passed, stuck, step}
 
--- the letters 1 and 2; and rules that all say 2
+-- the terminals 1 and 2; and rules that all say 2
 abbrev a : Part
 a = one (1 ∷ [])
 

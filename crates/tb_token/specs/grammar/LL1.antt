@@ -5,11 +5,11 @@ use Rattle.std.specs.List.{list_all}
 use Rattle.tb_token.specs.grammar.Grammar.{Part, one, both, either, maybe, many, opened, Rules, has}
 use Rattle.tb_token.specs.grammar.Reading.{is_never_empty, first_set_before, first_set}
 
--- all of the first letters are among the second
+-- all of the first terminals are among the second
 abbrev pub all_in : List ℕ → List ℕ → Bool
 all_in xs ys = list_all (has ys) xs
 
--- no letter is in both
+-- no terminal is in both
 abbrev pub are_apart : List ℕ → List ℕ → Bool
 are_apart xs ys = list_all (λ x. not (has ys x)) xs
 
@@ -22,7 +22,7 @@ abbrev pub first_set_of_all : List Part → List ℕ
 first_set_of_all [] = []
 first_set_of_all (p ∷ ps) = first_set_before p (first_set_of_all ps)
 
--- Whether the next letter tells how to read the part, where `behind` may stand behind it and
+-- Whether the next terminal tells how to read the part, where `behind` may stand behind it and
 -- `follow n` behind what rule n says. Each choice is between parts that begin apart, or between a
 -- part and what is behind it, and a part that may be left out is never empty by itself.
 abbrev pub is_ll1 : (ℕ → List ℕ) → List ℕ → Part → Bool

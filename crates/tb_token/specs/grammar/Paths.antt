@@ -1,7 +1,7 @@
 -- The grammar of paths and operands, line by line as docs/FORMATS.md has it but for `path`.
 use Rattle.std.specs.Prelude.{[], ◌∷◌, map, codes}
 use Rattle.tb_token.specs.grammar.Grammar.{Part, one, both, either, many, row}
-use Rattle.tb_token.specs.tokens.Letters.{letter_of}
+use Rattle.tb_token.specs.tokens.Lexemes.{terminal_of}
 use Rattle.tb_token.specs.declared.lexer.token.Kind.TheVariants.{Word}
 use Rattle.tb_token.specs.grammar.Terminals.{sign, variable}
 use Rattle.tb_token.specs.grammar.Patterns.{doc, axis, test}
@@ -28,7 +28,7 @@ path = either (both doc steps) (both variable (many step))
 
 -- COUNT | SUM | MIN | MAX
 abbrev pub agg : Part
-agg = one (map (letter_of Word) (codes "COUNT" ∷ codes "SUM" ∷ codes "MIN" ∷ codes "MAX" ∷ []))
+agg = one (map (terminal_of Word) (codes "COUNT" ∷ codes "SUM" ∷ codes "MIN" ∷ codes "MAX" ∷ []))
 
 -- path | agg "(" path ")"
 abbrev pub operand : Part

@@ -2,7 +2,7 @@
 use Rattle.std.specs.Prelude.{[], ◌∷◌, codes}
 use Rattle.tb_token.specs.grammar.Grammar.{Part, both, either, maybe, opened, row, one_of}
 use Rattle.tb_token.specs.grammar.Terminals.{keyword, sign, sign_among, name, number, string, text_test, list_of, comma}
-use Rattle.tb_token.specs.tokens.LetterNames as letters
+use Rattle.tb_token.specs.tokens.TerminalNames as terminals
 
 -- DOCUMENT "(" STRING ")"
 abbrev pub doc : Part
@@ -38,7 +38,7 @@ conds =
 
 -- "(" and rule 0, which is the rest of the edges
 abbrev pub edges : Part
-edges = opened (letters.OPEN ∷ []) 0
+edges = opened (terminals.OPEN ∷ []) 0
 
 -- axis mark test [ conds ] [ "!" ] [ edges ]
 abbrev pub edge : Part

@@ -1,13 +1,13 @@
 -- The grammar of queries, line by line as docs/FORMATS.md has it but for `path`, and its rules.
 use Rattle.std.specs.Prelude.{ℕ, zero, suc, List, [], ◌∷◌, map, codes}
 use Rattle.tb_token.specs.grammar.Grammar.{Part, one, both, either, maybe, many, Rules, row}
-use Rattle.tb_token.specs.tokens.Letters.{letter_of}
+use Rattle.tb_token.specs.tokens.Lexemes.{terminal_of}
 use Rattle.tb_token.specs.declared.lexer.token.Kind.TheVariants.{Word, Sign}
 use Rattle.tb_token.specs.grammar.Terminals.{keyword, sign, name, variable, list_of, comma}
 use Rattle.tb_token.specs.grammar.Patterns.{cmp, literal, edges_rest, match_query}
 use Rattle.tb_token.specs.grammar.Paths.{longpath, path, operand}
 use Rattle.tb_token.specs.grammar.Results.{cons_rest, back}
-use Rattle.tb_token.specs.tokens.LetterNames as letters
+use Rattle.tb_token.specs.tokens.TerminalNames as terminals
 
 -- VARIABLE [ ALLOWING EMPTY ] IN longpath
 abbrev pub bind : Part
@@ -37,7 +37,7 @@ group = row (keyword (codes "GROUP")) (keyword (codes "BY") ∷ variable ∷ sig
 abbrev pub key : Part
 key =
     both operand
-    (maybe (one (map (letter_of Word) (codes "ASCENDING" ∷ codes "DESCENDING" ∷ []))))
+    (maybe (one (map (terminal_of Word) (codes "ASCENDING" ∷ codes "DESCENDING" ∷ []))))
 
 -- ORDER BY key { "," key }
 abbrev pub order : Part
@@ -61,7 +61,7 @@ rules (suc (suc n)) = name
 
 -- what may stand behind the edges of an edge, and behind a constructor in another
 abbrev pub follow : ℕ → List ℕ
-follow zero = map (letter_of Sign) (codes "," ∷ codes ")" ∷ [])
+follow zero = map (terminal_of Sign) (codes "," ∷ codes ")" ∷ [])
 follow (suc zero) =
-    letters.QUOTED ∷ map (letter_of Sign) (codes "<" ∷ codes "{" ∷ codes "</" ∷ [])
+    terminals.QUOTED ∷ map (terminal_of Sign) (codes "<" ∷ codes "{" ∷ codes "</" ∷ [])
 follow (suc (suc n)) = []

@@ -16,7 +16,7 @@ abbrev pub may_end : List Part → Bool
 may_end [] = true
 may_end (p ∷ ps) = (if is_never_empty p then false else true) && may_end ps
 
--- FIRST of the part before what may begin with these letters
+-- FIRST of the part before what may begin with these terminals
 abbrev pub first_set_before : Part → List ℕ → List ℕ
 first_set_before (one c) behind = c
 first_set_before (both p q) behind = first_set_before p (first_set_before q behind)
@@ -25,12 +25,12 @@ first_set_before (maybe p) behind = first_set_before p behind ++ behind
 first_set_before (many p) behind = first_set_before p behind ++ behind
 first_set_before (opened c n) behind = c
 
--- FIRST of the part: the letters that it begins with
+-- FIRST of the part: the terminals that it begins with
 abbrev pub first_set : Part → List ℕ
 first_set p = first_set_before p []
 
--- What is still to come once the part, with these behind it, has taken the letter. A part that
--- takes nothing leaves the letter to what is behind it, which is the last argument.
+-- What is still to come once the part, with these behind it, has taken the terminal. A part that
+-- takes nothing leaves the terminal to what is behind it, which is the last argument.
 abbrev pub takes : Rules → Part → ℕ → List Part → Option (List Part) → Option (List Part)
 takes rules (one c) x ps else_by = if has c x then Some ps else None
 takes rules (both p q) x ps else_by = takes rules p x (q ∷ ps) (takes rules q x ps else_by)
@@ -42,7 +42,7 @@ takes rules (many p) x ps else_by =
     if has (first_set p) x then takes rules p x (many p ∷ ps) None else else_by
 takes rules (opened c n) x ps else_by = if has c x then Some (rules n ∷ ps) else None
 
--- what is still to come once these parts have taken the letter, or none where they cannot go on
+-- what is still to come once these parts have taken the terminal, or none where they cannot go on
 abbrev pub after : Rules → List Part → ℕ → Option (List Part)
 after rules [] x = None
 after rules (p ∷ ps) x = takes rules p x ps (after rules ps x)
@@ -52,4 +52,4 @@ after rules (p ∷ ps) x = takes rules p x ps (after rules ps x)
 abbrev pub read : Rules → List Tok → Option (List Part) → Option ℕ
 read rules s None = Some (1 + length s)
 read rules [] (Some ps) = if may_end ps then None else Some 0
-read rules (t ∷ s) (Some ps) = read rules s (after rules ps t.letter)
+read rules (t ∷ s) (Some ps) = read rules s (after rules ps t.terminal)

@@ -3,11 +3,11 @@ use Rattle.std.specs.Prelude.{[], ◌∷◌, codes}
 use Rattle.tb_token.specs.grammar.Grammar.{Part, either, many, opened, row, one_of}
 use Rattle.tb_token.specs.grammar.Terminals.{sign, name, string}
 use Rattle.tb_token.specs.grammar.Paths.{path, operand}
-use Rattle.tb_token.specs.tokens.LetterNames as letters
+use Rattle.tb_token.specs.tokens.TerminalNames as terminals
 
 -- "<" and rule 1, which is the rest of the constructor
 abbrev pub cons : Part
-cons = opened (letters.LESS ∷ []) 1
+cons = opened (terminals.LESS ∷ []) 1
 
 -- "{" operand "}"
 abbrev pub braced : Part

@@ -16,7 +16,7 @@ pub data Tree : Type 0 where
 pub data Derives (rules : Rules) : List Part → List Tree → List Tok → Type 0 where
   at_end : Derives rules [] [] []
   by_one : {c : List ℕ} {t : Tok} {ps : List Part} {vs : List Tree} {s : List Tok}
-      → IsTrue (has c t.letter) → Derives rules ps vs s
+      → IsTrue (has c t.terminal) → Derives rules ps vs s
       → Derives rules (one c ∷ ps) (leaf t ∷ vs) (t ∷ s)
   by_both : {p q : Part} {ps : List Part} {v w : Tree} {vs : List Tree} {s : List Tok}
       → Derives rules (p ∷ q ∷ ps) (v ∷ w ∷ vs) s
@@ -41,7 +41,7 @@ pub data Derives (rules : Rules) : List Part → List Tree → List Tok → Type
       → Derives rules (many p ∷ ps) (pair v w ∷ vs) s
   by_rule : {c : List ℕ} {n : ℕ} {t : Tok} {ps : List Part} {v : Tree} {vs : List Tree}
       {s : List Tok}
-      → IsTrue (has c t.letter) → Derives rules (rules n ∷ ps) (v ∷ vs) s
+      → IsTrue (has c t.terminal) → Derives rules (rules n ∷ ps) (v ∷ vs) s
       → Derives rules (opened c n ∷ ps) (pair (leaf t) v ∷ vs) (t ∷ s)
 
 -- the tokens are the parts

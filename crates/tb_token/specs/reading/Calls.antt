@@ -12,7 +12,7 @@ abbrev pub FirstWrong : Rules → grammar.Part → List Tok → Option ℕ → T
 FirstWrong rules p s None = AreSentence rules (p ∷ []) s
 FirstWrong rules p s (Some k) = IsWrongAt rules (p ∷ []) s k
 
--- so it is wherever the next letter decides
+-- so it is wherever the next terminal decides
 abbrev pub IsFirstWrong : Rules → grammar.Part → List Tok → Option ℕ → Type 0
 IsFirstWrong rules p s wrong =
     (follow : ℕ → List ℕ) → AreGood rules follow → AreLL1 follow (p ∷ [])

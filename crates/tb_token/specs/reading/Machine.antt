@@ -1,8 +1,8 @@
--- What the first part that is still to come does with a letter, as the program finds it.
+-- What the first part that is still to come does with a terminal, as the program finds it.
 use Rattle.std.specs.Prelude.{ℕ, Bool, false, ◌||◌, if◌then◌else◌, List, [], ◌∷◌, ◌++◌}
 use Rattle.tb_token.specs.grammar.Grammar.{Part, one, both, either, maybe, many, opened, Rules, has}
 
--- whether the part, or what is behind it where it may be empty, begins with the letter
+-- whether the part, or what is behind it where it may be empty, begins with the terminal
 abbrev pub begins_by : Part → ℕ → Bool → Bool
 begins_by (one c) x behind = has c x
 begins_by (both p q) x behind = begins_by p x (begins_by q x behind)
@@ -11,7 +11,7 @@ begins_by (maybe p) x behind = begins_by p x behind || behind
 begins_by (many p) x behind = begins_by p x behind || behind
 begins_by (opened c n) x behind = has c x
 
--- it takes the letter and leaves these parts of itself, or leaves the letter to what is behind, or
+-- it takes the terminal and leaves these parts of itself, or leaves the terminal to what is behind, or
 -- cannot go on
 pub data Step : Type 0 where
   taken : List Part → Step

@@ -26,13 +26,13 @@ abbrev pub is_passed : Took → Bool
 is_passed took.Passed = true
 is_passed _ = false
 
--- what a repetition did, whose part begins with the letter
+-- what a repetition did, whose part begins with the terminal
 abbrev pub of_more : Took → Took
 of_more took.Taken = took.Taken
 of_more took.Passed = took.Stuck
 of_more took.Stuck = took.Stuck
 
--- the parts have taken the letter, or cannot go on with it
+-- the parts have taken the terminal, or cannot go on with it
 abbrev pub HaveGone : grammar.Rules → ℕ → List (Bor Part) → List (Bor Part) → Bool → Type 0
 HaveGone rules x before now true = after rules (parts_in before) x ≡ Some (parts_in now)
 HaveGone rules x before now false = after rules (parts_in before) x ≡ None

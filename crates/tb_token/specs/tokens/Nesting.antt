@@ -1,9 +1,9 @@
--- How many tokens are open at once, each opened by some letters and closed by others.
+-- How many tokens are open at once, each opened by some terminals and closed by others.
 use Rattle.std.specs.Prelude.{ℕ, ◌+◌, ◌-◌, Bool, false, ◌||◌, nat_lt, if◌then◌else◌, List, [], ◌∷◌}
 use Rattle.tb_token.specs.grammar.Grammar.{Tok, has}
-use Rattle.tb_token.specs.tokens.LetterNames.{letters_of}
+use Rattle.tb_token.specs.tokens.TerminalNames.{terminals_of}
 
--- how many are open behind the letter, where so many are before it
+-- how many are open behind the terminal, where so many are before it
 abbrev pub open_behind : List ℕ → List ℕ → ℕ → ℕ → ℕ
 open_behind opening closing depth x =
     if has opening x then depth + 1 else (if has closing x then depth - 1 else depth)
@@ -16,4 +16,4 @@ nests_past opening closing depth (x ∷ xs) =
     nat_lt 32 behind || nests_past opening closing behind xs
 
 abbrev pub is_too_nested : List ℕ → List ℕ → List Tok → Bool
-is_too_nested opening closing s = nests_past opening closing 0 (letters_of s)
+is_too_nested opening closing s = nests_past opening closing 0 (terminals_of s)

@@ -2,20 +2,20 @@
 
 ghost use Rattle.std.specs.Prelude.{◌≡◌, ◌≤◌, IfOk, length};
 ghost use Rattle.tb_token.specs.tokens.Calls.{Rise};
-ghost use Rattle.tb_token.specs.tokens.Letters.{bytes_of, toks_of, tok_of};
+ghost use Rattle.tb_token.specs.tokens.Lexemes.{bytes_of, toks_of, tok_of};
 
-use crate::lexer::letter::letter_of;
+use crate::lexer::terminal::terminal_of;
 use crate::lexer::token::Token;
 use std::alloc::{AllocError, Global};
 use std::marker::Model;
 
-/// A token with its letter, which is all that the grammar sees of it, its bytes, and its number in
-/// the text, from 1. The letter of a name is 0, of a variable 1, of a number 2, of a string 3, of
+/// A token with its terminal, which is all that the grammar sees of it, its bytes, and its number in
+/// the text, from 1. The terminal of a name is 0, of a variable 1, of a number 2, of a string 3, of
 /// `text()` 4; signs have 8 and on, and keywords 64 and on, each in the order in which docs/FORMATS.md
 /// lists them.
 #[derive(Debug, Drop)]
 pub struct Lexeme<'a> {
-    pub letter: u8,
+    pub terminal: u8,
     pub bytes: &'a [u8],
     pub number: u32,
 }
@@ -25,7 +25,7 @@ impl<'a> Model for Lexeme<'a> {
 
     ghost Value = { Tok };
 
-    ghost view = { λ l. record { letter = l.letter; bytes = l.bytes.now; number = l.number } };
+    ghost view = { λ l. record { terminal = l.terminal; bytes = l.bytes.now; number = l.number } };
 }
 
 impl<'a> Lexeme<'a> {
@@ -41,16 +41,16 @@ impl<'a> Lexeme<'a> {
         ensures { IfOk result (λ lexeme. lexeme ≡ tok_of text.now token number) }
     {
         let bytes = bytes_of(text, token);
-        let letter = letter_of(alloc, token.kind, bytes)?;
+        let terminal = terminal_of(alloc, token.kind, bytes)?;
         Ok(Lexeme {
-            letter,
+            terminal,
             bytes,
             number,
         })
     }
 }
 
-/// The tokens of the text with their letters. They are such as `tokens` gives.
+/// The tokens of the text with their terminals. They are such as `tokens` gives.
 pub fn lexemes<'a>(
     alloc: Global,
     text: &'a [u8],

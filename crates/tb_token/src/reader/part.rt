@@ -5,12 +5,12 @@ ghost use Rattle.tb_token.specs.grammar.Reading.{is_never_empty};
 ghost use Rattle.tb_token.specs.reading.View.{part_of, rules_of};
 ghost use Rattle.tb_token.specs.reading.Machine.{begins_by};
 
-use crate::lexer::letters::has;
+use crate::lexer::terminals::has;
 
 /// What a rule is made of.
 #[derive(Clone, Copy)]
 pub enum Part<'g> {
-    /// One token whose letter is among these.
+    /// One token whose terminal is among these.
     One(&'g [u8]),
     /// The first, and behind it the second.
     Both(&'g Part<'g>, &'g Part<'g>),
@@ -20,7 +20,7 @@ pub enum Part<'g> {
     Maybe(&'g Part<'g>),
     /// The part any number of times.
     Many(&'g Part<'g>),
-    /// One token whose letter is among these, and behind it what the rule of this number says.
+    /// One token whose terminal is among these, and behind it what the rule of this number says.
     Opened(&'g [u8], usize),
 }
 
@@ -46,22 +46,22 @@ impl<'g> Grammar<'g> {
     }
 }
 
-/// Whether the part begins with the letter, or what is behind it does, where it may be empty.
-pub fn begins(part: &Part, letter: u8, behind: bool) -> bool
-    ensures { result ≡ begins_by (part_of part.now) letter behind }
+/// Whether the part begins with the terminal, or what is behind it does, where it may be empty.
+pub fn begins(part: &Part, terminal: u8, behind: bool) -> bool
+    ensures { result ≡ begins_by (part_of part.now) terminal behind }
 {
     match part {
-        Part::One(letters) => has(letters, letter),
+        Part::One(terminals) => has(terminals, terminal),
         Part::Both(first, second) => {
-            begins(first, letter, false)
-                || (!is_never_empty(first) && begins(second, letter, behind))
+            begins(first, terminal, false)
+                || (!is_never_empty(first) && begins(second, terminal, behind))
         }
         Part::Either(first, second) => {
-            begins(first, letter, behind) || begins(second, letter, behind)
+            begins(first, terminal, behind) || begins(second, terminal, behind)
         }
-        Part::Maybe(part) => behind || begins(part, letter, false),
-        Part::Many(part) => behind || begins(part, letter, false),
-        Part::Opened(letters, _) => has(letters, letter),
+        Part::Maybe(part) => behind || begins(part, terminal, false),
+        Part::Many(part) => behind || begins(part, terminal, false),
+        Part::Opened(terminals, _) => has(terminals, terminal),
     }
 }
 

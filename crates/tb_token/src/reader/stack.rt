@@ -1,4 +1,4 @@
-//! The parts that are still to come, and one letter.
+//! The parts that are still to come, and one terminal.
 
 ghost use Rattle.std.specs.Prelude.{◌≡◌, IfOk};
 ghost use Rattle.tb_token.specs.grammar.Reading.{may_end};
@@ -9,16 +9,16 @@ use crate::reader::part::{Grammar, Part, is_never_empty};
 use crate::reader::take::{Took, take};
 use std::alloc::AllocError;
 
-/// Whether the parts can go on with the letter. Then they have taken it.
+/// Whether the parts can go on with the terminal. Then they have taken it.
 pub fn goes_on<'g>(
     grammar: &Grammar<'g>,
-    letter: u8,
+    terminal: u8,
     stack: &mut Vec<&'g Part<'g>>,
 ) -> Result<bool, AllocError>
-    ensures { IfOk result (HaveGone (rules_of grammar.now) letter stack.old.items stack.new.items) }
+    ensures { IfOk result (HaveGone (rules_of grammar.now) terminal stack.old.items stack.new.items) }
 {
     'parts: while let Some(part) = stack.pop() {
-        match take(grammar, part, letter, stack)? {
+        match take(grammar, part, terminal, stack)? {
             Took::Taken => return Ok(true),
             Took::Passed => {}
             Took::Stuck => return Ok(false),

@@ -1,4 +1,4 @@
-//! One part and one letter.
+//! One part and one terminal.
 
 ghost use Rattle.std.specs.Prelude.{◌≡◌, IfOk, if◌then◌else◌};
 ghost use Rattle.tb_token.specs.reading.View.{part_of, rules_of};
@@ -6,11 +6,11 @@ ghost use Rattle.tb_token.specs.reading.Machine.{step};
 ghost use Rattle.tb_token.specs.declared.reader.take.Took.TheVariants.{Taken, Stuck};
 ghost use Rattle.tb_token.specs.reading.Stack.{HasTaken, is_passed, of_more};
 
-use crate::lexer::letters::has;
+use crate::lexer::terminals::has;
 use crate::reader::part::{Grammar, Part, begins};
 use std::alloc::AllocError;
 
-/// What a part did with a letter.
+/// What a part did with a terminal.
 #[derive(Clone, Copy, Debug, PartialEq, Eq)]
 pub enum Took {
     /// It took it.
@@ -31,7 +31,7 @@ impl Took {
         }
     }
 
-    /// What a repetition did, where this is what its part did, which begins with the letter.
+    /// What a repetition did, where this is what its part did, which begins with the terminal.
     fn of_more(self) -> Took
         ensures { result ≡ of_more self }
     {
@@ -42,39 +42,41 @@ impl Took {
     }
 }
 
-/// Lets the part take the letter, and puts what is left of the part on the stack.
+/// Lets the part take the terminal, and puts what is left of the part on the stack.
 pub fn take<'g>(
     grammar: &Grammar<'g>,
     part: &'g Part<'g>,
-    letter: u8,
+    terminal: u8,
     stack: &mut Vec<&'g Part<'g>>,
 ) -> Result<Took, AllocError>
-    ensures { IfOk result (HasTaken (step (rules_of grammar.now) (part_of part.now) letter)
+    ensures { IfOk result (HasTaken (step (rules_of grammar.now) (part_of part.now) terminal)
         stack.old.items stack.new.items) }
 {
     match part {
-        Part::One(letters) => Ok(taken_if(has(letters, letter))),
+        Part::One(terminals) => Ok(taken_if(has(terminals, terminal))),
         Part::Both(first, second) => {
             stack.push(second)?;
-            let took = take(grammar, first, letter, stack)?;
+            let took = take(grammar, first, terminal, stack)?;
             if !took.is_passed() {
                 return Ok(took);
             }
             let _second = stack.pop();
-            take(grammar, second, letter, stack)
+            take(grammar, second, terminal, stack)
         }
-        Part::Either(first, _) if begins(first, letter, false) => {
-            take(grammar, first, letter, stack)
+        Part::Either(first, _) if begins(first, terminal, false) => {
+            take(grammar, first, terminal, stack)
         }
-        Part::Either(_, second) => take(grammar, second, letter, stack),
-        Part::Maybe(inner) if begins(inner, letter, false) => take(grammar, inner, letter, stack),
+        Part::Either(_, second) => take(grammar, second, terminal, stack),
+        Part::Maybe(inner) if begins(inner, terminal, false) => take(
+            grammar, inner, terminal, stack,
+        ),
         Part::Maybe(_) => Ok(Took::Passed),
-        Part::Many(inner) if begins(inner, letter, false) => {
+        Part::Many(inner) if begins(inner, terminal, false) => {
             stack.push(part)?;
-            Ok(take(grammar, inner, letter, stack)?.of_more())
+            Ok(take(grammar, inner, terminal, stack)?.of_more())
         }
         Part::Many(_) => Ok(Took::Passed),
-        Part::Opened(letters, rule) if has(letters, letter) => {
+        Part::Opened(terminals, rule) if has(terminals, terminal) => {
             stack.push(grammar.rule(*rule))?;
             Ok(Took::Taken)
         }

@@ -21,7 +21,7 @@ pub fn first_wrong(
     let mut stack = Vec::new(alloc);
     stack.push(grammar.start)?;
     'tokens: for (at, token) in tokens.iter().enumerate() {
-        if !goes_on(grammar, token.letter, &mut stack)? {
+        if !goes_on(grammar, token.terminal, &mut stack)? {
             return Ok(Some(at as u32 + 1));
         }
     }

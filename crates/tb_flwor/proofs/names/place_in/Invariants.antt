@@ -1,5 +1,5 @@
 use Rattle.std.proofs.Common.{◌≡◌, ◌+◌, drop, map}
-use Rattle.tb_token.specs.tokens.Letters.{place_in}
+use Rattle.tb_token.specs.tokens.Lexemes.{place_in}
 use Rattle.tb_flwor.proofs.names.place_in.Given as goal
 
 -- the name stands in none of the texts passed

@@ -1,6 +1,6 @@
 -- Tokens of a cut rise and their numbers are digits; without fault they are built.
 use Rattle.std.proofs.Common.{◌∙◌, ap, length, None, arith}
-use Rattle.tb_token.specs.tokens.Letters.{toks_of}
+use Rattle.tb_token.specs.tokens.Lexemes.{toks_of}
 use Rattle.tb_token.proofs.lexing.CutLaws.{rise-of_cut}
 use Rattle.tb_token.proofs.lexing.DigitLaws.{digits-of_cut}
 use Rattle.tb_token.proofs.lexing.LexemeLaws.{rise-few, toks-length}

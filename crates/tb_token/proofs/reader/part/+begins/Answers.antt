@@ -9,17 +9,17 @@ use Rattle.tb_token.proofs.reader.part.+begins.Goals as goal
 pub returns-then-begins : goal.returns-then-begins
 returns-then-begins t c =
     let whole = ap part_of c.in-Both.is ∙ part_of-Both c.in-Both.first c.in-Both.second in
-    let past = begins-first (part_of c.in-Both.first.now) (part_of c.in-Both.second.now) c.args.letter c.args.behind (sym c.begins.ensures ∙ c.if-begins.true) in
-    c.if-begins.true ∙ sym past ∙ ap (λ p. begins_by p c.args.letter c.args.behind) (sym whole)
+    let past = begins-first (part_of c.in-Both.first.now) (part_of c.in-Both.second.now) c.args.terminal c.args.behind (sym c.begins.ensures ∙ c.if-begins.true) in
+    c.if-begins.true ∙ sym past ∙ ap (λ p. begins_by p c.args.terminal c.args.behind) (sym whole)
 
 pub returns-then-not-is_never_empty : goal.returns-then-not-is_never_empty
 returns-then-not-is_never_empty t c =
     let whole = ap part_of c.in-Both.is ∙ part_of-Both c.in-Both.first c.in-Both.second in
-    let past = begins-second (part_of c.in-Both.first.now) (part_of c.in-Both.second.now) c.args.letter c.args.behind (sym c.begins.ensures ∙ c.if-begins.false) (sym c.is_never_empty.ensures ∙ c.if-not-is_never_empty.true) in
-    c.begins-then-not-is_never_empty.ensures ∙ sym past ∙ ap (λ p. begins_by p c.args.letter c.args.behind) (sym whole)
+    let past = begins-second (part_of c.in-Both.first.now) (part_of c.in-Both.second.now) c.args.terminal c.args.behind (sym c.begins.ensures ∙ c.if-begins.false) (sym c.is_never_empty.ensures ∙ c.if-not-is_never_empty.true) in
+    c.begins-then-not-is_never_empty.ensures ∙ sym past ∙ ap (λ p. begins_by p c.args.terminal c.args.behind) (sym whole)
 
 pub returns-else-not-is_never_empty : goal.returns-else-not-is_never_empty
 returns-else-not-is_never_empty t c =
     let whole = ap part_of c.in-Both.is ∙ part_of-Both c.in-Both.first c.in-Both.second in
-    let past = begins-neither (part_of c.in-Both.first.now) (part_of c.in-Both.second.now) c.args.letter c.args.behind (sym c.begins.ensures ∙ c.if-begins.false) (sym c.is_never_empty.ensures ∙ c.if-not-is_never_empty.false) in
-    ap not c.if-not-is_never_empty.false ∙ sym past ∙ ap (λ p. begins_by p c.args.letter c.args.behind) (sym whole)
+    let past = begins-neither (part_of c.in-Both.first.now) (part_of c.in-Both.second.now) c.args.terminal c.args.behind (sym c.begins.ensures ∙ c.if-begins.false) (sym c.is_never_empty.ensures ∙ c.if-not-is_never_empty.false) in
+    ap not c.if-not-is_never_empty.false ∙ sym past ∙ ap (λ p. begins_by p c.args.terminal c.args.behind) (sym whole)

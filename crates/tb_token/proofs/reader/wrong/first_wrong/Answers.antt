@@ -9,7 +9,7 @@ pub returns-then-not-branch : goal.returns-then-not-branch
 returns-then-not-branch c =
     as-said c.args.grammar.now c.args.tokens.now (Some (c.tokens.at + 1))
     (wrong-here (rules_of c.args.grammar.now) (part_of c.args.grammar.now.start.now) c.args.tokens.now c.tokens.at (parts_in c.tokens.stack.items) c.tokens.invariant (omega arith)
-    c.index-tokens-at.result c.index-tokens-at.is c.token.inside.letter (ap (λ t. t.letter) c.token.view_is)
+    c.index-tokens-at.result c.index-tokens-at.is c.token.inside.terminal (ap (λ t. t.terminal) c.token.view_is)
     (rw c.if-not-branch.true at c.in_ok-goes_on.ensures))
 
 pub returns-then-may_end : goal.returns-then-may_end

@@ -1,4 +1,4 @@
--- Lists of letters.
+-- Lists of terminals.
 use Rattle.std.proofs.Common.{◌≡◌, ◌⊎◌, inl, inr, ℕ, Bool, true, false, not, ◌&&◌, ◌||◌, ◌==◌, List, [], ◌∷◌, ◌++◌, refl, sym, ◌∙◌, eqb-true}
 use Rattle.std.proofs.lemmas.Bool.{and_parts, and_from, or_left, or_right, or_parts, and_cases, not_from_false, or_cases, not-true}
 use Rattle.std.proofs.lemmas.Bool.Decides.{Decides-eqb}
@@ -35,7 +35,7 @@ has-only c x is = by (c == x) refl is
     by true e same = sym (eqb-true c x e)
     by false e same = none-true false refl same
 
--- all letters of the first are letters of the second
+-- all terminals of the first are terminals of the second
 abbrev pub Within : List ℕ → List ℕ → Type 0
 Within xs ys = (x : ℕ) → has xs x ≡ true → has ys x ≡ true
 

@@ -1,8 +1,8 @@
-//! Letters: what the grammar sees of a token.
+//! Terminals: what the grammar sees of a token.
 
 ghost use Rattle.std.specs.Prelude.{◌≡◌, ◌≤◌, IfOk, length, map};
 ghost use Rattle.std.specs.Str.{bytes_eq};
-ghost use Rattle.tb_token.specs.tokens.Letters.{letter_of, place_in};
+ghost use Rattle.tb_token.specs.tokens.Lexemes.{terminal_of, place_in};
 ghost use Rattle.tb_token.specs.tokens.Kinds.{signs};
 ghost use Rattle.tb_token.specs.tokens.Names.{keywords};
 
@@ -10,9 +10,9 @@ use crate::lexer::names::is_same;
 use crate::lexer::token::Kind;
 use std::alloc::{AllocError, Global};
 
-/// The letter of a token whose bytes are these. Memory is taken for a keyword alone.
-pub fn letter_of(alloc: Global, kind: Kind, bytes: &[u8]) -> Result<u8, AllocError>
-    ensures { IfOk result (λ letter. letter ≡ letter_of kind bytes.now) }
+/// The terminal of a token whose bytes are these. Memory is taken for a keyword alone.
+pub fn terminal_of(alloc: Global, kind: Kind, bytes: &[u8]) -> Result<u8, AllocError>
+    ensures { IfOk result (λ terminal. terminal ≡ terminal_of kind bytes.now) }
 {
     match kind {
         Kind::Name => Ok(0),

@@ -1,4 +1,4 @@
-//! The letters of tokens by name: those that `letter_of` gives. Readers' contracts hold each against
+//! The terminals of tokens by name: those that `terminal_of` gives. Readers' contracts hold each against
 //! the grammar.
 
 ghost use Rattle.std.specs.Prelude.{◌≡◌};
@@ -119,9 +119,9 @@ pub const COMPARISONS: &[u8] = &[
     GREATER_OR_EQUAL,
 ];
 
-/// Whether the letter is among these.
-pub fn has(letters: &[u8], letter: u8) -> bool
-    ensures { result ≡ has letters.now letter }
+/// Whether the terminal is among these.
+pub fn has(terminals: &[u8], terminal: u8) -> bool
+    ensures { result ≡ has terminals.now terminal }
 {
-    letters.contains(&letter)
+    terminals.contains(&terminal)
 }

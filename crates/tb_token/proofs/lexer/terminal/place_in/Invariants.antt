@@ -1,6 +1,6 @@
 use Rattle.std.proofs.Common.{◌≡◌, ◌+◌, drop, map}
-use Rattle.tb_token.specs.tokens.Letters.{place_in}
-use Rattle.tb_token.proofs.lexer.letter.place_in.Given as goal
+use Rattle.tb_token.specs.tokens.Lexemes.{place_in}
+use Rattle.tb_token.proofs.lexer.terminal.place_in.Given as goal
 
 -- the texts passed are counted, and what is left is counted in the same way
 abbrev pub invariant-texts : goal.invariant-texts
