@@ -79,6 +79,7 @@ fn the_first_line_with_a_fault_is_named(rt: HostRuntime) -> Result<(), Fail> {
 fn each_limit_holds_at_its_last_and_fails_past_it(rt: HostRuntime) -> Result<(), Fail> {
     let session: &[u8] = b"session\n";
     let load: &[u8] = b"load x\n.\n";
+    let full = script_of(rt.alloc(), &[(session, 1), (load, 10_000)])?;
     let rows: [(&[(&[u8], u32)], Option<ScriptFault>); 12] = [
         (&[(session, 64)], None),
         (&[(session, 65)], Some(TooManySessions(65))),
@@ -100,42 +101,9 @@ fn each_limit_holds_at_its_last_and_fails_past_it(rt: HostRuntime) -> Result<(),
             &[(session, 1), (load, 9_999), (b"tell a\n", 2)],
             Some(MarkTwice(20_001)),
         ),
+        (&[(&full, 6), (session, 1), (load, 5_536)], None),
         (
-            &[
-                (session, 1),
-                (load, 10_000),
-                (session, 1),
-                (load, 10_000),
-                (session, 1),
-                (load, 10_000),
-                (session, 1),
-                (load, 10_000),
-                (session, 1),
-                (load, 10_000),
-                (session, 1),
-                (load, 10_000),
-                (session, 1),
-                (load, 5_536),
-            ],
-            None,
-        ),
-        (
-            &[
-                (session, 1),
-                (load, 10_000),
-                (session, 1),
-                (load, 10_000),
-                (session, 1),
-                (load, 10_000),
-                (session, 1),
-                (load, 10_000),
-                (session, 1),
-                (load, 10_000),
-                (session, 1),
-                (load, 10_000),
-                (session, 1),
-                (load, 5_537),
-            ],
+            &[(&full, 6), (session, 1), (load, 5_537)],
             Some(TooManyChanges(131_080)),
         ),
         (
