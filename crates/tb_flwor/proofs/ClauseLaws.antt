@@ -17,7 +17,7 @@ use Rattle.tb_query.specs.declared.clause.Clause.TheVariants.{For, Let}
 use Rattle.tb_query.specs.declared.path.Path.{Path}
 use Rattle.tb_flwor.specs.Value.{Names, bind_from, more_binds, clause_from, more_clauses}
 use Rattle.tb_flwor.specs.Built.{Gives, GivesAll, IsLongpath, allowing, IsAllowed, AreBinds, AreMoreClauses, BuildsClauses}
-use Rattle.tb_flwor.proofs.RunLaws.{ListSoFar, Puts, list-start, list-next, list-end, behind-next, behind-end}
+use Rattle.tb_pattern.proofs.RunLaws.{ListSoFar, Puts, list-start, list-next, list-end, behind-next, behind-end}
 
 abbrev Next : List Tok → Tree → Type 0
 Next s v = v ≡ next s

@@ -22,7 +22,7 @@ use Rattle.tb_query.specs.declared.operand.Right.{Right}
 use Rattle.tb_query.specs.declared.operand.Right.TheVariants as right
 use Rattle.tb_flwor.specs.Value.{Names, right_of, cond_from, more_conds, conds_of}
 use Rattle.tb_flwor.specs.Built.{Gives, IsOperand, IsRight, AreConds}
-use Rattle.tb_flwor.proofs.RunLaws.{ListSoFar, list-start, behind-next, behind-end}
+use Rattle.tb_pattern.proofs.RunLaws.{ListSoFar, list-start, behind-next, behind-end}
 
 abbrev Next : List Tok → Tree → Type 0
 Next s v = v ≡ next s

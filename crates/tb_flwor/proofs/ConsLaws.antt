@@ -23,7 +23,7 @@ use Rattle.tb_query.specs.declared.path.Path.{Path}
 use Rattle.tb_flwor.specs.Value.{Names}
 use Rattle.tb_flwor.specs.Results.{attr_from, attrs_of, cons_in, cons_behind, parts_in, part_from, back_in}
 use Rattle.tb_flwor.specs.Built.{Gives, IsPath, IsContent, AreAttrs, IsCons, inside, AreInside, IsPart, AreParts, IsBack}
-use Rattle.tb_flwor.proofs.RunLaws.{SoFar, far-start, far-next, run-end, ListSoFar, list-start, list-end, item-next, many-none}
+use Rattle.tb_pattern.proofs.RunLaws.{SoFar, far-start, far-next, run-end, ListSoFar, list-start, list-end, item-next, many-none}
 use Rattle.tb_flwor.proofs.Views.{cons_of-Cons, part_of-Cons, part_of-Content}
 
 abbrev Next : List Tok → Tree → Type 0

@@ -2,7 +2,6 @@ pub mod NameLaws
 pub mod AttributeLaws
 pub mod VariableRows
 pub mod ConstructorRows
-pub mod RunLaws
 pub mod PathLaws
 pub mod OperandLaws
 pub mod ClauseLaws

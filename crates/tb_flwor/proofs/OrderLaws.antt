@@ -18,7 +18,7 @@ use Rattle.tb_query.specs.declared.operand.Operand.{Operand}
 use Rattle.tb_query.specs.declared.path.Path.{Path}
 use Rattle.tb_flwor.specs.Value.{Names, is_keyword, group_of, key_from, more_keys, keys_of}
 use Rattle.tb_flwor.specs.Built.{Gives, IsPath, IsOperand, IsGroup, direction, IsTurned, AreKeys}
-use Rattle.tb_flwor.proofs.RunLaws.{ListSoFar, list-start, behind-next, behind-end}
+use Rattle.tb_pattern.proofs.RunLaws.{ListSoFar, list-start, behind-next, behind-end}
 
 abbrev Next : List Tok → Tree → Type 0
 Next s v = v ≡ next s

@@ -20,7 +20,7 @@ use Rattle.tb_query.specs.declared.path.Start.TheVariants as start
 use Rattle.tb_query.specs.declared.path.Step.{Step}
 use Rattle.tb_flwor.specs.Value.{Names, step_from, more_steps, steps_of, path_of, longpath_of, document_in}
 use Rattle.tb_flwor.specs.Built.{Gives, IsDocument, AreSteps, AreMore, IsStart, IsPath, IsLongpath}
-use Rattle.tb_flwor.proofs.RunLaws.{ListSoFar, item-next, list-end, many-built, many-none}
+use Rattle.tb_pattern.proofs.RunLaws.{ListSoFar, item-next, list-end, many-built, many-none}
 
 abbrev Next : List Tok → Tree → Type 0
 Next s v = v ≡ next s

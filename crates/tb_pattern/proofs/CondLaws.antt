@@ -23,7 +23,7 @@ use Rattle.tb_pattern.specs.declared.cond.Literal.{Literal}
 use Rattle.tb_pattern.specs.declared.cond.Literal.TheVariants as a
 use Rattle.tb_pattern.proofs.LiteralLaws.{literal-number}
 use Rattle.tb_pattern.proofs.BuildingLaws.{some-none, false-true, numbers-next, come-next, come-as, wrong-terminal, one-builds, Both, both-builds, builds-as, First, first-builds, put_in-builds, left_out-builds}
-use Rattle.tb_pattern.proofs.ListLaws.{IsList, BuildsList, list-first, list-next, list-end}
+use Rattle.tb_pattern.proofs.RunLaws.{ListSoFar, list-start, behind-next, behind-end}
 
 -- A number is the one that its tree stands for, since it is within the range.
 
@@ -151,22 +151,28 @@ cond-builds (t ∷ u) left with is ps minus come = by (has terminals.COMPARISONS
         }
     by false h = wrong-terminal terminals.COMPARISONS t u (literal ∷ ps) h (sym (read-both rules cmp literal (t ∷ u) ps) ∙ come.parts)
 
--- so much of the list behind the first token is built
+abbrev other_cond : Part
+other_cond = both (keyword (codes "AND")) one_cond
+
+-- so much of the list behind the first token is built: a condition, and others behind it
 pub record CondsSoFar (found : List Cond) (s left : List Tok) : Type 0 where
-  pub built : BuildsList and_terminal one_cond conds_from more_conds_of (λ others. found ++ others) (drop 1 s) left
+  pub first : Cond
+  pub mid : List Tok
+  pub one : Builds one_cond (IsCond first) (drop 1 s) mid
+  pub others : ListSoFar other_cond more_conds_of (first ∷ []) found mid left
   pub shorter : length left ≤ length s
 
 pub conds-first : (c : Cond) (s left : List Tok) → Builds one_cond (IsCond c) (drop 1 s) left → length left ≤ length (drop 1 s) → CondsSoFar (c ∷ []) s left
-conds-first c s left is shorter = record {
-  built = list-first and_terminal one_cond conds_from more_conds_of (λ others. c ∷ others) (drop 1 s) left is;
-  shorter = omega (arith, length-drop 1 s);
-}
+conds-first c s left is shorter =
+    record { first = c; mid = left; one = is; others = list-start other_cond more_conds_of (c ∷ []) left; shorter = omega (arith, length-drop 1 s) }
 
 pub conds-next : (found : List Cond) (c : Cond) (s mid left : List Tok) → begins and_terminal mid ≡ true → CondsSoFar found s mid → Builds one_cond (IsCond c) (drop 1 mid) left
     → length left ≤ length (drop 1 mid) → CondsSoFar (found ++ c ∷ []) s left
 conds-next found c s mid left e so_far is shorter = record {
-  built = list-next and_terminal one_cond conds_from more_conds_of (λ others. found ++ others) (λ others. c ∷ others) (λ others. (found ++ c ∷ []) ++ others) (drop 1 s) mid left
-      (λ keyword v w. refl) (λ others. sym (append_assoc found (c ∷ []) others)) e so_far.built is;
+  first = so_far.first;
+  mid = so_far.mid;
+  one = so_far.one;
+  others = behind-next one_cond conds_from more_conds_of and_terminal (so_far.first ∷ []) found c so_far.mid mid left (λ keyword v w. refl) e so_far.others is shorter;
   shorter = let before = so_far.shorter in omega (arith, length-drop 1 mid);
 }
 
@@ -177,19 +183,21 @@ abbrev closing : List ℕ
 closing = terminals.CLOSE_CONDS ∷ []
 
 abbrev inner : Part
-inner = both one_cond (many (both (keyword (codes "AND")) one_cond))
+inner = both one_cond (many other_cond)
 
 pub conds-end : (found : List Cond) (s left : List Tok) → begins opening s ≡ true → begins and_terminal left ≡ false → CondsSoFar found s left
     → Builds (maybe conds) (AreConds found) s (drop 1 left)
 conds-end found s left e f so_far =
+    let Listed : Tree → Type 0 = Both (IsCond so_far.first) (λ v. so_far.first ∷ more_conds_of v ≡ found) in
     put_in-builds conds (AreConds found) s (drop 1 left) e
-    (builds-as conds (Both (Next s) (Both (IsList and_terminal one_cond conds_from more_conds_of (found ++ [])) (Next left))) (AreConds found) s (drop 1 left)
-    (λ v b. ap conds_of b.pair_is ∙ ap (λ w. conds_of (pair b.one w)) b.two_is.pair_is ∙ ap (λ w. conds_of (pair b.one (pair w b.two_is.two))) b.two_is.one_is.pair_is
-    ∙ b.two_is.one_is.value_is ∙ append-nil found)
-    (both-builds (sign (codes "[")) (both inner (sign (codes "]"))) (Next s) (Both (IsList and_terminal one_cond conds_from more_conds_of (found ++ [])) (Next left)) s (drop 1 s) (drop 1 left)
-    (one-builds opening s)
-    (both-builds inner (sign (codes "]")) (IsList and_terminal one_cond conds_from more_conds_of (found ++ [])) (Next left) (drop 1 s) left (drop 1 left)
-    (list-end and_terminal one_cond conds_from more_conds_of (λ others. found ++ others) (drop 1 s) left f so_far.built) (one-builds closing left))))
+    (builds-as conds (Both (Next s) (Both Listed (Next left))) (AreConds found) s (drop 1 left)
+    (λ v b.
+    let l = b.two_is.one_is in
+    ap conds_of b.pair_is ∙ ap (λ w. conds_of (pair b.one w)) b.two_is.pair_is ∙ ap (λ w. conds_of (pair b.one (pair w b.two_is.two))) l.pair_is
+    ∙ l.one_is (more_conds_of l.two) ∙ l.two_is)
+    (both-builds (sign (codes "[")) (both inner (sign (codes "]"))) (Next s) (Both Listed (Next left)) s (drop 1 s) (drop 1 left) (one-builds opening s)
+    (both-builds inner (sign (codes "]")) Listed (Next left) (drop 1 s) left (drop 1 left)
+    (behind-end one_cond conds_from more_conds_of and_terminal so_far.first found (drop 1 s) so_far.mid left refl f so_far.one so_far.others) (one-builds closing left))))
 
 pub conds-none : (s : List Tok) → begins opening s ≡ false → Builds (maybe conds) (AreConds []) s s
 conds-none s e = builds-as (maybe conds) (λ v. v ≡ nothing) (AreConds []) s s (λ v f. ap conds_of f) (left_out-builds conds s e)

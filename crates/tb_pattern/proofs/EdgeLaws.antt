@@ -17,7 +17,7 @@ use Rattle.tb_pattern.specs.declared.pattern.Edge.{Edge, roll-Edge}
 use Rattle.tb_pattern.specs.declared.pattern.PNode.{PNode, roll-PNode}
 use Rattle.tb_pattern.proofs.Views.{edge_of-Edge, pattern_at-PNode}
 use Rattle.tb_pattern.proofs.BuildingLaws.{false-true, one-builds, Both, both-builds, builds-as, put_in-builds, left_out-builds, Opened, rule-builds}
-use Rattle.tb_pattern.proofs.ListLaws.{IsList, BuildsList, list-first, list-next, list-end}
+use Rattle.tb_pattern.proofs.RunLaws.{SoFar, Adds, AddsAll, far-start, far-next, run-end, behind-builds}
 
 abbrev bang_terminal : List ℕ
 bang_terminal = terminals.BANG ∷ []
@@ -87,22 +87,31 @@ before-all (f ∷ fs) = ap (λ es. put (edge_of f) es) (before-all fs)
 abbrev comma_terminal : List ℕ
 comma_terminal = terminals.COMMA ∷ []
 
--- so much of the list is built
+abbrev other_edge : Part
+other_edge = both comma edge
+
+-- so much of the list is built: an edge, and others behind it
 pub record EdgesSoFar (found : List Edge) (s left : List Tok) : Type 0 where
-  pub built : BuildsList comma_terminal edge edges_from more_edges_in (λ behind. edges_before found behind) s left
+  pub first : Edge
+  pub mid : List Tok
+  pub one : Builds edge (IsEdge first) s mid
+  pub others : SoFar other_edge edges_before more_edges_in (first ∷ []) found mid left
   pub shorter : length left ≤ length s
 
 pub edges-first : (e : Edge) (s left : List Tok) → Builds edge (IsEdge e) s left → length left ≤ length s → EdgesSoFar (e ∷ []) s left
-edges-first e s left is shorter = record {
-  built = list-first comma_terminal edge edges_from more_edges_in (λ behind. put (edge_of e) behind) s left is;
-  shorter = shorter;
-}
+edges-first e s left is shorter =
+    record { first = e; mid = left; one = is; others = far-start other_edge edges_before more_edges_in (e ∷ []) left; shorter = shorter }
 
 pub edges-next : (found : List Edge) (e : Edge) (s mid left : List Tok) → begins comma_terminal mid ≡ true → EdgesSoFar found s mid → Builds edge (IsEdge e) (drop 1 mid) left
     → length left ≤ length (drop 1 mid) → EdgesSoFar (found ++ e ∷ []) s left
 edges-next found e s mid left is_comma so_far is shorter = record {
-  built = list-next comma_terminal edge edges_from more_edges_in (λ behind. edges_before found behind) (λ behind. put (edge_of e) behind) (λ behind. edges_before (found ++ e ∷ []) behind) s mid left
-      (λ sep v w. refl) (λ behind. before-next found e behind) is_comma so_far.built is;
+  first = so_far.first;
+  mid = so_far.mid;
+  one = so_far.one;
+  others = far-next other_edge edges_before more_edges_in (so_far.first ∷ []) found (found ++ e ∷ []) so_far.mid mid left refl is_comma so_far.others
+      (behind-builds comma_terminal edge (IsEdge e) (Adds other_edge edges_before more_edges_in found (found ++ e ∷ [])) mid left
+      (λ a v g w. ap (edges_before found) (g (more_edges_in w)) ∙ before-next found e (more_edges_in w)) is)
+      (omega (arith, length-drop 1 mid));
   shorter = let before = so_far.shorter in omega (arith, length-drop 1 mid);
 }
 
@@ -110,14 +119,20 @@ abbrev closing : List ℕ
 closing = terminals.CLOSE ∷ []
 
 abbrev inner : Part
-inner = both edge (many (both comma edge))
+inner = both edge (many other_edge)
 
 pub edges-end : (found : List Edge) (s left : List Tok) → begins comma_terminal left ≡ false → EdgesSoFar found s left → Builds edges_rest (AreEdges found) s (drop 1 left)
 edges-end found s left e so_far =
-    builds-as edges_rest (Both (IsList comma_terminal edge edges_from more_edges_in (edges_before found no_edges)) (Next left)) (AreEdges found) s (drop 1 left)
-    (λ v b. sym (ap edges_behind b.pair_is ∙ ap (λ w. edges_behind (pair w b.two)) b.one_is.pair_is ∙ b.one_is.value_is ∙ before-all found))
-    (both-builds inner (sign (codes ")")) (IsList comma_terminal edge edges_from more_edges_in (edges_before found no_edges)) (Next left) s left (drop 1 left)
-    (list-end comma_terminal edge edges_from more_edges_in (λ behind. edges_before found behind) s left e so_far.built) (one-builds closing left))
+    let All : Tree → Type 0 = AddsAll other_edge edges_before more_edges_in (so_far.first ∷ []) found in
+    let Listed : Tree → Type 0 = Both (IsEdge so_far.first) All in
+    builds-as edges_rest (Both Listed (Next left)) (AreEdges found) s (drop 1 left)
+    (λ v b.
+    let l = b.one_is in
+    sym (ap edges_behind b.pair_is ∙ ap (λ w. edges_behind (pair w b.two)) l.pair_is ∙ l.one_is (more_edges_in l.two) ∙ l.two_is ∙ before-all found))
+    (both-builds inner (sign (codes ")")) Listed (Next left) s left (drop 1 left)
+    (both-builds edge (many other_edge) (IsEdge so_far.first) All s so_far.mid left so_far.one
+    (run-end other_edge edges_before more_edges_in (so_far.first ∷ []) found so_far.mid left e so_far.others.built))
+    (one-builds closing left))
 
 abbrev opening : List ℕ
 opening = terminals.OPEN ∷ []

@@ -2,7 +2,7 @@ pub mod Views
 pub mod SyntaxLaws
 pub mod ValueLaws
 pub mod BuildingLaws
-pub mod ListLaws
+pub mod RunLaws
 pub mod NodeTestLaws
 pub mod LiteralLaws
 pub mod CondLaws

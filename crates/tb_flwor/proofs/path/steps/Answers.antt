@@ -2,7 +2,7 @@
 use Rattle.std.proofs.Common.{sym, ◌∙◌}
 use Rattle.tb_token.specs.grammar.Paths.{step}
 use Rattle.tb_flwor.specs.Value.{more_steps}
-use Rattle.tb_flwor.proofs.RunLaws.{list-start}
+use Rattle.tb_pattern.proofs.RunLaws.{list-start}
 use Rattle.tb_flwor.proofs.PathLaws.{steps-next, steps-end}
 use Rattle.tb_flwor.proofs.path.steps.Goals as goal
 
