@@ -1,7 +1,7 @@
 -- Conditions are built one after the other, and each from its operands.
-use Rattle.std.proofs.Common.{◌≡◌, ℕ, Bool, true, false, ◌≤◌, List, [], ◌∷◌, ◌++◌, length, drop, refl, sym, ap, ◌∙◌, append_assoc, append-nil, arith, length-drop}
+use Rattle.std.proofs.Common.{◌≡◌, ℕ, Bool, true, false, ◌≤◌, List, [], ◌∷◌, ◌++◌, length, drop, refl, sym, ap, ◌∙◌}
 use Rattle.std.specs.Prelude.{codes}
-use Rattle.tb_token.specs.grammar.Grammar.{Tok, Part, both, either, maybe, many, has}
+use Rattle.tb_token.specs.grammar.Grammar.{Tok, Part, both, either, maybe, has}
 use Rattle.tb_token.specs.grammar.Sentences.{Tree, leaf, nothing, pair, second, by_one, by_both, by_second}
 use Rattle.tb_token.specs.grammar.Reading.{first_set}
 use Rattle.tb_token.proofs.grammar.PlaceLaws.{read-both, read-second, read-one}
@@ -11,7 +11,7 @@ use Rattle.tb_token.specs.grammar.Paths.{operand}
 use Rattle.tb_token.specs.grammar.Queries.{rules, cond, where_part}
 use Rattle.tb_token.specs.tokens.TerminalNames as terminals
 use Rattle.tb_pattern.specs.Value.{op_of}
-use Rattle.tb_pattern.specs.Building.{next, begins, Come, IsBuilt, Builds, BuildsApart}
+use Rattle.tb_pattern.specs.Building.{next, Next, begins, Come, IsBuilt, Builds, BuildsApart}
 use Rattle.tb_pattern.specs.BuiltParts.{IsLiteral}
 use Rattle.tb_pattern.proofs.BuildingLaws.{some-none, come-next, come-as, wrong-terminal, one-builds, Both, both-builds, builds-as, put_in-builds, left_out-builds, First, first-builds}
 use Rattle.tb_pattern.proofs.CondLaws.{cmp-minus}
@@ -23,9 +23,6 @@ use Rattle.tb_query.specs.declared.operand.Right.TheVariants as right
 use Rattle.tb_flwor.specs.Value.{Names, right_of, cond_from, more_conds, conds_of}
 use Rattle.tb_flwor.specs.Built.{Gives, IsOperand, IsRight, AreConds}
 use Rattle.tb_pattern.proofs.RunLaws.{ListSoFar, list-start, behind-next, behind-end}
-
-abbrev Next : List Tok → Tree → Type 0
-Next s v = v ≡ next s
 
 abbrev operand_terminals : List ℕ
 operand_terminals = first_set operand
@@ -92,12 +89,6 @@ module _ (names : Names) where
 
   -- Conditions behind the keyword WHERE.
 
-  abbrev and_terminal : List ℕ
-  and_terminal = terminals.AND ∷ []
-
-  abbrev where_terminal : List ℕ
-  where_terminal = terminals.WHERE ∷ []
-
   abbrev other_cond : Part
   other_cond = both (keyword (codes "AND")) cond
 
@@ -107,16 +98,16 @@ module _ (names : Names) where
   pub conds-start : (old : List Comparison) (s : List Tok) → CondsSoFar old old s s
   conds-start old s = list-start other_cond (more_conds names) old s
 
-  pub conds-next : (old found : List Comparison) (is : Comparison) (s mid left : List Tok) → begins and_terminal mid ≡ true → CondsSoFar old found s mid
+  pub conds-next : (old found : List Comparison) (is : Comparison) (s mid left : List Tok) → begins (terminals.AND ∷ []) mid ≡ true → CondsSoFar old found s mid
       → Builds cond (Gives (cond_from names) is) (drop 1 mid) left → length left ≤ length (drop 1 mid) → CondsSoFar old (found ++ is ∷ []) s left
   conds-next old found is s mid left e far gives shorter =
-      behind-next cond (cond_from names) (more_conds names) and_terminal old found is s mid left (λ a v w. refl) e far gives shorter
+      behind-next cond (cond_from names) (more_conds names) (terminals.AND ∷ []) old found is s mid left (λ a v w. refl) e far gives shorter
 
   module _ (is : Comparison) (found : List Comparison) (s mid left : List Tok) where
     abbrev Listed : Tree → Type 0
     Listed = Both (Gives (cond_from names) is) (λ v. is ∷ more_conds names v ≡ found)
 
-    pub conds-end : begins where_terminal s ≡ true → begins and_terminal left ≡ false → Builds cond (Gives (cond_from names) is) (drop 1 s) mid
+    pub conds-end : begins (terminals.WHERE ∷ []) s ≡ true → begins (terminals.AND ∷ []) left ≡ false → Builds cond (Gives (cond_from names) is) (drop 1 s) mid
         → CondsSoFar (is ∷ []) found mid left → Builds (maybe where_part) (AreConds names found) s left
     conds-end e f gives far =
         put_in-builds where_part (AreConds names found) s left e
@@ -124,8 +115,8 @@ module _ (names : Names) where
         (λ v b.
         let l = b.two_is in
         ap (conds_of names) (b.pair_is ∙ ap (λ x. pair b.one x) l.pair_is) ∙ l.one_is (more_conds names l.two) ∙ l.two_is)
-        (both-builds (keyword (codes "WHERE")) (list_of (keyword (codes "AND")) cond) (Next s) Listed s (drop 1 s) left (one-builds where_terminal s)
-        (behind-end cond (cond_from names) (more_conds names) and_terminal is found (drop 1 s) mid left refl f gives far)))
+        (both-builds (keyword (codes "WHERE")) (list_of (keyword (codes "AND")) cond) (Next s) Listed s (drop 1 s) left (one-builds (terminals.WHERE ∷ []) s)
+        (behind-end cond (cond_from names) (more_conds names) (terminals.AND ∷ []) is found (drop 1 s) mid left refl f gives far)))
 
-  pub conds-none : (s : List Tok) → begins where_terminal s ≡ false → Builds (maybe where_part) (AreConds names []) s s
+  pub conds-none : (s : List Tok) → begins (terminals.WHERE ∷ []) s ≡ false → Builds (maybe where_part) (AreConds names []) s s
   conds-none s e = builds-as (maybe where_part) (λ v. v ≡ nothing) (AreConds names []) s s (λ v f. ap (conds_of names) f) (left_out-builds where_part s e)

@@ -1,16 +1,14 @@
 -- Constructors are built from their attributes and their parts.
-use Rattle.std.proofs.Common.{◌≡◌, ℕ, true, false, ◌-◌, ◌≤◌, List, [], ◌∷◌, ◌++◌, map, length, drop, refl, sym, ap, ◌∙◌, append_assoc, append-nil, arith}
+use Rattle.std.proofs.Common.{◌≡◌, ℕ, true, false, ◌-◌, ◌≤◌, List, [], ◌∷◌, ◌++◌, map, length, drop, refl, sym, ap, ◌∙◌, arith}
 use Rattle.std.specs.Prelude.{codes}
 use Rattle.tb_token.specs.grammar.Grammar.{Tok, Part, both, either, many}
 use Rattle.tb_token.specs.grammar.Sentences.{Tree, nothing, pair, second}
-use Rattle.tb_token.specs.tokens.Lexemes.{terminal_of}
 use Rattle.tb_token.specs.grammar.Terminals.{sign, name, string}
 use Rattle.tb_token.specs.grammar.Paths.{path}
 use Rattle.tb_token.specs.grammar.Results.{cons, braced, attr, piece, cons_rest, back}
-use Rattle.tb_token.specs.declared.lexer.token.Kind.TheVariants as kind
 use Rattle.tb_token.specs.tokens.TerminalNames as terminals
 use Rattle.tb_pattern.specs.Value.{bytes_in}
-use Rattle.tb_pattern.specs.Building.{next, begins, Builds}
+use Rattle.tb_pattern.specs.Building.{next, Next, begins, Builds}
 use Rattle.tb_pattern.proofs.BuildingLaws.{one-builds, Both, both-builds, builds-as, First, Second, first-builds, second-builds, Opened, rule-builds}
 use Rattle.tb_query.specs.Parts.{PlainParts, no_parts, before, plain_parts, part_of, cons_of, inner, content, element, nodes_back, cons_back}
 use Rattle.tb_query.specs.declared.back.AttrPart.{AttrPart}
@@ -24,16 +22,8 @@ use Rattle.tb_flwor.specs.Value.{Names}
 use Rattle.tb_flwor.specs.Results.{attr_from, attrs_of, cons_in, cons_behind, parts_in, part_from, back_in}
 use Rattle.tb_flwor.specs.Built.{Gives, IsPath, IsContent, AreAttrs, IsCons, inside, AreInside, IsPart, AreParts, IsBack}
 use Rattle.tb_pattern.proofs.RunLaws.{SoFar, far-start, far-next, run-end, ListSoFar, list-start, list-end, item-next, many-none}
+use Rattle.tb_flwor.proofs.OperandLaws.{path_terminals}
 use Rattle.tb_flwor.proofs.Views.{cons_of-Cons, part_of-Cons, part_of-Content}
-
-abbrev Next : List Tok → Tree → Type 0
-Next s v = v ≡ next s
-
-abbrev terminal : List ℕ → List ℕ
-terminal text = terminal_of kind.Sign text ∷ []
-
-abbrev path_terminals : List ℕ
-path_terminals = terminals.DOCUMENT ∷ terminals.VARIABLE ∷ []
 
 -- what was found, with one more and what is behind
 abbrev parts_before : List part.Part → PlainParts → PlainParts
@@ -63,7 +53,7 @@ module _ (names : Names) where
         builds-as attr (Both (Next s) From) (Gives (attr_from names) attr_is) s left
         (λ v b behind. ap (λ x. attr_from names x behind) (b.pair_is ∙ ap (λ x. pair b.one x) b.two_is.pair_is) ∙ rw (b.one_is, b.two_is.two_is) refl)
         (both-builds name (both (sign (codes "=")) (either string braced)) (Next s) From s (drop 1 s) left (one-builds terminals.NAMES s)
-        (both-builds (sign (codes "=")) (either string braced) (Next (drop 1 s)) (IsContent names is) (drop 1 s) (drop 1 (drop 1 s)) left (one-builds (terminal (codes "=")) (drop 1 s)) content_is))
+        (both-builds (sign (codes "=")) (either string braced) (Next (drop 1 s)) (IsContent names is) (drop 1 s) (drop 1 (drop 1 s)) left (one-builds (terminals.EQUAL ∷ []) (drop 1 s)) content_is))
 
   abbrev pub AttrsSoFar : List AttrPart → List Tok → List Tok → Type 0
   AttrsSoFar = ListSoFar attr (attrs_of names) []
@@ -112,9 +102,6 @@ module _ (names : Names) where
 
   -- One part.
 
-  abbrev less : List ℕ
-  less = terminal (codes "<")
-
   -- a constructor and its `<`
   abbrev IsInner : cons.Cons → Tree → Type 0
   IsInner c v = cons_of c ≡ cons_in names v
@@ -122,16 +109,16 @@ module _ (names : Names) where
   inner-builds : (c : cons.Cons) (s left : List Tok) → Builds cons_rest (IsCons names c) (drop 1 s) left → Builds cons (IsInner c) s left
   inner-builds c s left cons_is =
       builds-as cons (Opened (IsCons names c)) (IsInner c) s left (λ v o. o.inside_is ∙ sym (ap (cons_in names) o.pair_is))
-      (rule-builds less 1 (IsCons names c) s left cons_is)
+      (rule-builds (terminals.LESS ∷ []) 1 (IsCons names c) s left cons_is)
 
-  pub part-cons : (c : cons.Cons) (s left : List Tok) → begins less s ≡ true → Builds cons_rest (IsCons names c) (drop 1 s) left → Builds piece (IsPart names (parts.Cons c)) s left
+  pub part-cons : (c : cons.Cons) (s left : List Tok) → begins (terminals.LESS ∷ []) s ≡ true → Builds cons_rest (IsCons names c) (drop 1 s) left → Builds piece (IsPart names (parts.Cons c)) s left
   part-cons c s left e cons_is =
       builds-as piece (First (IsInner c)) (IsPart names (parts.Cons c)) s left
       (λ v f behind.
       ap (λ x. part_from names x behind) f.first_is ∙ ap (λ x. inner x behind) (sym f.one_is) ∙ ap (λ x. before x behind) (sym (part_of-Cons c)))
       (first-builds cons (either string braced) (IsInner c) s left e (inner-builds c s left cons_is))
 
-  pub part-content : (c : Content) (s left : List Tok) → begins less s ≡ false → Builds (either string braced) (IsContent names c) s left
+  pub part-content : (c : Content) (s left : List Tok) → begins (terminals.LESS ∷ []) s ≡ false → Builds (either string braced) (IsContent names c) s left
       → Builds piece (IsPart names (parts.Content c)) s left
   part-content c s left e content_is =
       builds-as piece (Second (IsContent names c)) (IsPart names (parts.Content c)) s left
@@ -144,10 +131,10 @@ module _ (names : Names) where
   abbrev opened_tag : Part
   opened_tag = both (sign (codes ">")) (both (many piece) (both (sign (codes "</")) (both name (sign (codes ">")))))
 
-  pub inside-none : (s : List Tok) → begins (terminal (codes "/>")) s ≡ true → Builds inside (AreInside names []) s (drop 1 s)
+  pub inside-none : (s : List Tok) → begins (terminals.SELF_CLOSE ∷ []) s ≡ true → Builds inside (AreInside names []) s (drop 1 s)
   inside-none s e =
       builds-as inside (First (Next s)) (AreInside names []) s (drop 1 s) (λ v f n a. sym (ap (λ x. cons_behind names (pair n (pair a x))) f.first_is))
-      (first-builds (sign (codes "/>")) opened_tag (Next s) s (drop 1 s) e (one-builds (terminal (codes "/>")) s))
+      (first-builds (sign (codes "/>")) opened_tag (Next s) s (drop 1 s) e (one-builds (terminals.SELF_CLOSE ∷ []) s))
 
   module _ (are : List part.Part) (s mid : List Tok) where
     abbrev m1 : List Tok
@@ -162,7 +149,7 @@ module _ (names : Names) where
     abbrev Behind : Tree → Type 0
     Behind = Both (AreParts names are) Tag
 
-    pub inside-parts : begins (terminal (codes "/>")) s ≡ false → Builds (many piece) (AreParts names are) (drop 1 s) mid → Builds inside (AreInside names are) s (drop 1 m2)
+    pub inside-parts : begins (terminals.SELF_CLOSE ∷ []) s ≡ false → Builds (many piece) (AreParts names are) (drop 1 s) mid → Builds inside (AreInside names are) s (drop 1 m2)
     inside-parts e parts_are =
         builds-as inside (Second (Both (Next s) Behind)) (AreInside names are) s (drop 1 m2)
         (λ v f n a.
@@ -171,10 +158,10 @@ module _ (names : Names) where
         sym (ap (λ x. cons_behind names (pair n (pair a x))) (f.second_is ∙ ap second (b.pair_is ∙ ap (λ x. pair b.one x) p.pair_is))
         ∙ ap (λ x. element (bytes_in n) (attrs_of names a) x) p.one_is))
         (second-builds (sign (codes "/>")) opened_tag (Both (Next s) Behind) s (drop 1 m2) refl e
-        (both-builds (sign (codes ">")) (both (many piece) (both (sign (codes "</")) (both name (sign (codes ">"))))) (Next s) Behind s (drop 1 s) (drop 1 m2) (one-builds (terminal (codes ">")) s)
+        (both-builds (sign (codes ">")) (both (many piece) (both (sign (codes "</")) (both name (sign (codes ">"))))) (Next s) Behind s (drop 1 s) (drop 1 m2) (one-builds (terminals.GREATER ∷ []) s)
         (both-builds (many piece) (both (sign (codes "</")) (both name (sign (codes ">")))) (AreParts names are) Tag (drop 1 s) mid (drop 1 m2) parts_are
-        (both-builds (sign (codes "</")) (both name (sign (codes ">"))) (Next mid) (Both (Next m1) (Next m2)) mid m1 (drop 1 m2) (one-builds (terminal (codes "</")) mid)
-        (both-builds name (sign (codes ">")) (Next m1) (Next m2) m1 m2 (drop 1 m2) (one-builds terminals.NAMES m1) (one-builds (terminal (codes ">")) m2))))))
+        (both-builds (sign (codes "</")) (both name (sign (codes ">"))) (Next mid) (Both (Next m1) (Next m2)) mid m1 (drop 1 m2) (one-builds (terminals.END_TAG ∷ []) mid)
+        (both-builds name (sign (codes ">")) (Next m1) (Next m2) m1 m2 (drop 1 m2) (one-builds terminals.NAMES m1) (one-builds (terminals.GREATER ∷ []) m2))))))
 
   -- A whole constructor behind its `<`.
 

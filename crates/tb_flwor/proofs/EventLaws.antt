@@ -20,7 +20,7 @@ use Rattle.tb_flwor.specs.Variables.{is_variable, binds, bound, is_known, begins
 use Rattle.tb_flwor.specs.Returned.{tokens_of}
 use Rattle.tb_flwor.specs.Events as event
 use Rattle.tb_flwor.specs.Events.{Event, names_of, unknown_after, repeated_after, used, owned, bound_by, in_path, in_own_path, in_longpath, in_operand, in_bind, in_binds, in_clause, in_clauses, in_right, in_cond, in_more_conds, in_conds, in_group, in_key, in_more_keys, in_keys, in_braced, in_content, in_attrs, in_cons, in_cons_rest, in_tail, in_pieces, in_piece, in_back, in_flwor, VariablesAgree}
-use Rattle.tb_flwor.proofs.TokenLaws.{tokens-derived, swapped, only-terminal, second-of}
+use Rattle.tb_flwor.proofs.TokenLaws.{tokens-derived, swapped, has-one, second-of}
 
 -- the events of tokens, where the token before them has this terminal
 
@@ -171,7 +171,7 @@ used-here c t s e f =
     ap (λ x. cond x (event_at 0 t s ∷ raw t.terminal s) (raw t.terminal s)) e ∙ ap (λ x. cond x (event.binds t) (event.uses t) ∷ raw t.terminal s) f
 
 is-var : (t : Tok) → has (terminals.VARIABLE ∷ []) t.terminal ≡ true → is_variable t.terminal ≡ true
-is-var t h = only-terminal terminals.VARIABLE t.terminal h
+is-var t h = has-one terminals.VARIABLE t.terminal ∙ h
 
 var-behind : (t : Tok) → has (terminals.VARIABLE ∷ []) t.terminal ≡ true → begins_path t.terminal ≡ false
 var-behind t h = apart-none (terminals.VARIABLE ∷ []) openers t.terminal refl h

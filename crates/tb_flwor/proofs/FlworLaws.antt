@@ -1,5 +1,5 @@
 -- A query of clauses is built from its parts.
-use Rattle.std.proofs.Common.{◌≡◌, ℕ, List, [], ◌∷◌, drop, sym, ap, ◌∙◌}
+use Rattle.std.proofs.Common.{◌≡◌, List, [], ◌∷◌, drop, sym, ap, ◌∙◌}
 use Rattle.std.specs.Prelude.{codes}
 use Rattle.tb_token.specs.grammar.Grammar.{Tok, Part, both, maybe, many}
 use Rattle.tb_token.specs.grammar.Sentences.{Tree, pair}
@@ -7,18 +7,12 @@ use Rattle.tb_token.specs.grammar.Terminals.{keyword}
 use Rattle.tb_token.specs.grammar.Queries.{clause, where_part, group, order, flwor}
 use Rattle.tb_token.specs.grammar.Results.{back}
 use Rattle.tb_token.specs.tokens.TerminalNames as terminals
-use Rattle.tb_pattern.specs.Building.{next, Builds}
+use Rattle.tb_pattern.specs.Building.{Next, Builds}
 use Rattle.tb_pattern.proofs.BuildingLaws.{one-builds, Both, both-builds, builds-as}
 use Rattle.tb_query.specs.declared.query.Flwor as query
 use Rattle.tb_flwor.specs.Value.{Names, clause_from, more_clauses}
 use Rattle.tb_flwor.specs.Asked.{IsFlwor}
 use Rattle.tb_flwor.specs.Built.{GivesAll, AreMoreClauses, BuildsClauses, AreConds, IsGroup, AreKeys, IsBack}
-
-abbrev Next : List Tok → Tree → Type 0
-Next s v = v ≡ next s
-
-abbrev return_terminal : List ℕ
-return_terminal = terminals.RETURN ∷ []
 
 module _ (names : Names) (q : query.Flwor) (s l1 l2 l3 l4 l5 : List Tok) (clauses_are : BuildsClauses names q.clauses s l1) where
   abbrev returned : Part
@@ -78,4 +72,4 @@ module _ (names : Names) (q : query.Flwor) (s l1 l2 l3 l4 l5 : List Tok) (clause
       (both-builds (maybe where_part) grouped (AreConds names q.conds) Grouped l1 l2 l5 conds_are
       (both-builds (maybe group) ordered (IsGroup names q.group) Ordered l2 l3 l5 group_is
       (both-builds (maybe order) returned (AreKeys names q.keys) Returned l3 l4 l5 keys_are
-      (both-builds (keyword (codes "RETURN")) back (Next l4) (IsBack names q.back) l4 (drop 1 l4) l5 (one-builds return_terminal l4) back_is))))))
+      (both-builds (keyword (codes "RETURN")) back (Next l4) (IsBack names q.back) l4 (drop 1 l4) l5 (one-builds (terminals.RETURN ∷ []) l4) back_is))))))

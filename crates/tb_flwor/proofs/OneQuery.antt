@@ -4,13 +4,10 @@ use Rattle.tb_token.specs.grammar.Grammar.{Tok}
 use Rattle.tb_token.specs.grammar.Sentences.{Tree, leaf, nothing, pair, first, second}
 use Rattle.tb_token.proofs.grammar.TreeLaws.{one-tree}
 use Rattle.tb_token.specs.grammar.Queries.{rules, follow}
-use Rattle.tb_token.proofs.grammar.QueryLaws.{readable}
+use Rattle.tb_token.proofs.grammar.QueryLaws.{readable, first-tree}
 use Rattle.tb_query.specs.declared.query.Query.{Query}
 use Rattle.tb_query.specs.declared.query.Query.TheVariants.{Match, Flwor}
 use Rattle.tb_flwor.specs.Asked.{IsOf, AskFor, AreSame}
-
-first-tree : (v w : Tree) → (v ∷ []) ≡ (w ∷ []) → v ≡ w
-first-tree v w e = cc
 
 -- a tree stands for one query
 of-one : (s : List Tok) (q r : Query) (v : Tree) → IsOf s q v → IsOf s r v → AreSame q r

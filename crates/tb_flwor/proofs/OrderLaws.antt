@@ -1,16 +1,15 @@
 -- Groups and keys are built from their paths and operands.
-use Rattle.std.proofs.Common.{◌≡◌, ℕ, Bool, true, false, ◌≤◌, ◌||◌, ◌==◌, List, [], ◌∷◌, ◌++◌, length, drop, Some, None, refl, sym, ap, ◌∙◌, append_assoc, append-nil, arith, length-drop}
+use Rattle.std.proofs.Common.{◌≡◌, ℕ, Bool, true, false, ◌≤◌, List, [], ◌∷◌, ◌++◌, length, drop, Some, None, refl, ap, ◌∙◌}
 use Rattle.std.specs.Prelude.{codes}
-use Rattle.tb_token.specs.grammar.Grammar.{Tok, Part, both, maybe, many}
+use Rattle.tb_token.specs.grammar.Grammar.{Tok, Part, both, maybe}
 use Rattle.tb_token.specs.grammar.Sentences.{Tree, nothing, pair}
-use Rattle.tb_token.specs.tokens.Lexemes.{terminal_of, place_in}
+use Rattle.tb_token.specs.tokens.Lexemes.{place_in}
 use Rattle.tb_token.specs.grammar.Terminals.{keyword, sign, variable, list_of, comma}
 use Rattle.tb_token.specs.grammar.Paths.{operand, path}
 use Rattle.tb_token.specs.grammar.Queries.{group, key, order}
-use Rattle.tb_token.specs.declared.lexer.token.Kind.TheVariants as kind
 use Rattle.tb_token.specs.tokens.TerminalNames as terminals
 use Rattle.tb_pattern.specs.Value.{bytes_in}
-use Rattle.tb_pattern.specs.Building.{next, begins, Builds}
+use Rattle.tb_pattern.specs.Building.{next, Next, begins, Builds}
 use Rattle.tb_pattern.proofs.BuildingLaws.{one-builds, Both, both-builds, builds-as, put_in-builds, left_out-builds}
 use Rattle.tb_query.specs.declared.clause.GroupBy.{GroupBy}
 use Rattle.tb_query.specs.declared.clause.Key.{Key}
@@ -18,33 +17,22 @@ use Rattle.tb_query.specs.declared.operand.Operand.{Operand}
 use Rattle.tb_query.specs.declared.path.Path.{Path}
 use Rattle.tb_flwor.specs.Value.{Names, is_keyword, group_of, key_from, more_keys, keys_of}
 use Rattle.tb_flwor.specs.Built.{Gives, IsPath, IsOperand, IsGroup, direction, IsTurned, AreKeys}
+use Rattle.tb_flwor.proofs.TokenLaws.{has-one}
 use Rattle.tb_pattern.proofs.RunLaws.{ListSoFar, list-start, behind-next, behind-end}
-
-abbrev Next : List Tok → Tree → Type 0
-Next s v = v ≡ next s
-
-abbrev keyword_terminal : List ℕ → List ℕ
-keyword_terminal text = terminal_of kind.Word text ∷ []
-
-abbrev variable_terminal : List ℕ
-variable_terminal = terminals.VARIABLE ∷ []
 
 -- [ ASCENDING | DESCENDING ]
 
 abbrev direction_terminals : List ℕ
 direction_terminals = terminals.ASCENDING ∷ terminals.DESCENDING ∷ []
 
-swapped : (x y : ℕ) → (x == y) ≡ (y == x || false)
-swapped x y = grind arith
-
-turned-next : (s : List Tok) → is_keyword (codes "DESCENDING") (next s) ≡ begins (keyword_terminal (codes "DESCENDING")) s
+turned-next : (s : List Tok) → is_keyword (codes "DESCENDING") (next s) ≡ begins (terminals.DESCENDING ∷ []) s
 turned-next [] = refl
-turned-next (t ∷ u) = swapped t.terminal terminals.DESCENDING
+turned-next (t ∷ u) = has-one terminals.DESCENDING t.terminal
 
-pub turned-there : (s : List Tok) → begins direction_terminals s ≡ true → Builds (maybe direction) (IsTurned (begins (keyword_terminal (codes "DESCENDING")) s)) s (drop 1 s)
+pub turned-there : (s : List Tok) → begins direction_terminals s ≡ true → Builds (maybe direction) (IsTurned (begins (terminals.DESCENDING ∷ []) s)) s (drop 1 s)
 turned-there s e =
-    put_in-builds direction (IsTurned (begins (keyword_terminal (codes "DESCENDING")) s)) s (drop 1 s) e
-    (builds-as direction (Next s) (IsTurned (begins (keyword_terminal (codes "DESCENDING")) s)) s (drop 1 s) (λ v f. ap (is_keyword (codes "DESCENDING")) f ∙ turned-next s)
+    put_in-builds direction (IsTurned (begins (terminals.DESCENDING ∷ []) s)) s (drop 1 s) e
+    (builds-as direction (Next s) (IsTurned (begins (terminals.DESCENDING ∷ []) s)) s (drop 1 s) (λ v f. ap (is_keyword (codes "DESCENDING")) f ∙ turned-next s)
     (one-builds direction_terminals s))
 
 pub turned-none : (s : List Tok) → begins direction_terminals s ≡ false → Builds (maybe direction) (IsTurned false) s s
@@ -81,16 +69,16 @@ module _ (names : Names) where
         let a = n.two_is in
         ap (group_of names) (b.pair_is ∙ ap (λ x. pair b.one x) (y.pair_is ∙ ap (λ x. pair y.one x) (n.pair_is ∙ ap (λ x. pair n.one x) a.pair_is))) ∙ rw (n.one_is, a.two_is) refl
 
-    pub group-there : begins (keyword_terminal (codes "GROUP")) s ≡ true → Builds path (IsPath names path_is) (drop 1 s3) left → Builds (maybe group) (IsGroup names (Some grouped)) s left
+    pub group-there : begins (terminals.GROUP ∷ []) s ≡ true → Builds path (IsPath names path_is) (drop 1 s3) left → Builds (maybe group) (IsGroup names (Some grouped)) s left
     group-there e path_builds =
         put_in-builds group (IsGroup names (Some grouped)) s left e
         (builds-as group (Both (Next s) By) (IsGroup names (Some grouped)) s left group-is
-        (both-builds (keyword (codes "GROUP")) (both (keyword (codes "BY")) (both variable (both (sign (codes ":=")) path))) (Next s) By s s1 left (one-builds (keyword_terminal (codes "GROUP")) s)
-        (both-builds (keyword (codes "BY")) (both variable (both (sign (codes ":=")) path)) (Next s1) Named s1 s2 left (one-builds (keyword_terminal (codes "BY")) s1)
-        (both-builds variable (both (sign (codes ":=")) path) (Next s2) Assigned s2 s3 left (one-builds variable_terminal s2)
+        (both-builds (keyword (codes "GROUP")) (both (keyword (codes "BY")) (both variable (both (sign (codes ":=")) path))) (Next s) By s s1 left (one-builds (terminals.GROUP ∷ []) s)
+        (both-builds (keyword (codes "BY")) (both variable (both (sign (codes ":=")) path)) (Next s1) Named s1 s2 left (one-builds (terminals.BY ∷ []) s1)
+        (both-builds variable (both (sign (codes ":=")) path) (Next s2) Assigned s2 s3 left (one-builds (terminals.VARIABLE ∷ []) s2)
         (both-builds (sign (codes ":=")) path (Next s3) (IsPath names path_is) s3 (drop 1 s3) left (one-builds (terminals.ASSIGN ∷ []) s3) path_builds)))))
 
-  pub group-none : (s : List Tok) → begins (keyword_terminal (codes "GROUP")) s ≡ false → Builds (maybe group) (IsGroup names None) s s
+  pub group-none : (s : List Tok) → begins (terminals.GROUP ∷ []) s ≡ false → Builds (maybe group) (IsGroup names None) s s
   group-none s e = builds-as (maybe group) (λ v. v ≡ nothing) (IsGroup names None) s s (λ v f. ap (group_of names) f) (left_out-builds group s e)
 
   -- Keys.
@@ -102,9 +90,6 @@ module _ (names : Names) where
       (λ v b behind. ap (λ x. key_from names x behind) b.pair_is ∙ rw (b.one_is, b.two_is) refl)
       (both-builds operand (maybe direction) (IsOperand names o) (IsTurned turned) s mid left operand_is turned_is)
 
-  abbrev comma_terminal : List ℕ
-  comma_terminal = terminals.COMMA ∷ []
-
   abbrev other_key : Part
   other_key = both comma key
 
@@ -114,10 +99,10 @@ module _ (names : Names) where
   pub keys-start : (old : List Key) (s : List Tok) → KeysSoFar old old s s
   keys-start old s = list-start other_key (more_keys names) old s
 
-  pub keys-next : (old found : List Key) (is : Key) (s mid left : List Tok) → begins comma_terminal mid ≡ true → KeysSoFar old found s mid
+  pub keys-next : (old found : List Key) (is : Key) (s mid left : List Tok) → begins (terminals.COMMA ∷ []) mid ≡ true → KeysSoFar old found s mid
       → Builds key (Gives (key_from names) is) (drop 1 mid) left → length left ≤ length (drop 1 mid) → KeysSoFar old (found ++ is ∷ []) s left
   keys-next old found is s mid left e far gives shorter =
-      behind-next key (key_from names) (more_keys names) comma_terminal old found is s mid left (λ a v w. refl) e far gives shorter
+      behind-next key (key_from names) (more_keys names) (terminals.COMMA ∷ []) old found is s mid left (λ a v w. refl) e far gives shorter
 
   module _ (is : Key) (found : List Key) (s mid left : List Tok) where
     abbrev Listed : Tree → Type 0
@@ -126,7 +111,7 @@ module _ (names : Names) where
     abbrev Ordered : Tree → Type 0
     Ordered = Both (Next (drop 1 s)) Listed
 
-    pub keys-end : begins (keyword_terminal (codes "ORDER")) s ≡ true → begins comma_terminal left ≡ false → Builds key (Gives (key_from names) is) (drop 1 (drop 1 s)) mid
+    pub keys-end : begins (terminals.ORDER ∷ []) s ≡ true → begins (terminals.COMMA ∷ []) left ≡ false → Builds key (Gives (key_from names) is) (drop 1 (drop 1 s)) mid
         → KeysSoFar (is ∷ []) found mid left → Builds (maybe order) (AreKeys names found) s left
     keys-end e f gives far =
         put_in-builds order (AreKeys names found) s left e
@@ -135,9 +120,9 @@ module _ (names : Names) where
         let o = b.two_is in
         let l = o.two_is in
         ap (keys_of names) (b.pair_is ∙ ap (λ x. pair b.one x) (o.pair_is ∙ ap (λ x. pair o.one x) l.pair_is)) ∙ l.one_is (more_keys names l.two) ∙ l.two_is)
-        (both-builds (keyword (codes "ORDER")) (both (keyword (codes "BY")) (list_of comma key)) (Next s) Ordered s (drop 1 s) left (one-builds (keyword_terminal (codes "ORDER")) s)
-        (both-builds (keyword (codes "BY")) (list_of comma key) (Next (drop 1 s)) Listed (drop 1 s) (drop 1 (drop 1 s)) left (one-builds (keyword_terminal (codes "BY")) (drop 1 s))
-        (behind-end key (key_from names) (more_keys names) comma_terminal is found (drop 1 (drop 1 s)) mid left refl f gives far))))
+        (both-builds (keyword (codes "ORDER")) (both (keyword (codes "BY")) (list_of comma key)) (Next s) Ordered s (drop 1 s) left (one-builds (terminals.ORDER ∷ []) s)
+        (both-builds (keyword (codes "BY")) (list_of comma key) (Next (drop 1 s)) Listed (drop 1 s) (drop 1 (drop 1 s)) left (one-builds (terminals.BY ∷ []) (drop 1 s))
+        (behind-end key (key_from names) (more_keys names) (terminals.COMMA ∷ []) is found (drop 1 (drop 1 s)) mid left refl f gives far))))
 
-  pub keys-none : (s : List Tok) → begins (keyword_terminal (codes "ORDER")) s ≡ false → Builds (maybe order) (AreKeys names []) s s
+  pub keys-none : (s : List Tok) → begins (terminals.ORDER ∷ []) s ≡ false → Builds (maybe order) (AreKeys names []) s s
   keys-none s e = builds-as (maybe order) (λ v. v ≡ nothing) (AreKeys names []) s s (λ v f. ap (keys_of names) f) (left_out-builds order s e)

@@ -1,17 +1,16 @@
 -- Paths are built step by step.
-use Rattle.std.proofs.Common.{◌≡◌, ℕ, true, false, ◌-◌, ◌≤◌, List, [], ◌∷◌, ◌++◌, length, drop, refl, sym, ap, ◌∙◌, append_assoc, append-nil, arith}
+use Rattle.std.proofs.Common.{◌≡◌, ℕ, true, false, ◌-◌, ◌≤◌, List, [], ◌∷◌, ◌++◌, length, drop, refl, ap, ◌∙◌}
 use Rattle.std.specs.Prelude.{codes}
 use Rattle.tb_token.specs.grammar.Grammar.{Tok, Part, both, either, many}
 use Rattle.tb_token.specs.grammar.Sentences.{Tree, leaf, nothing, pair, first, second}
-use Rattle.tb_token.specs.tokens.Lexemes.{terminal_of, place_in}
+use Rattle.tb_token.specs.tokens.Lexemes.{place_in}
 use Rattle.tb_token.specs.grammar.Terminals.{keyword, sign, string, variable}
 use Rattle.tb_token.specs.grammar.Patterns.{doc, axis, test}
 use Rattle.tb_token.specs.grammar.Paths.{step, steps, longpath, path}
-use Rattle.tb_token.specs.declared.lexer.token.Kind.TheVariants as kind
 use Rattle.tb_token.specs.tokens.TerminalNames as terminals
 use Rattle.tb_tree.specs.declared.node_test.Test.{Test}
 use Rattle.tb_pattern.specs.Value.{bytes_in, inside, axis_of}
-use Rattle.tb_pattern.specs.Building.{next, begins, Builds}
+use Rattle.tb_pattern.specs.Building.{next, Next, begins, Builds}
 use Rattle.tb_pattern.specs.BuiltParts.{IsTest}
 use Rattle.tb_pattern.proofs.BuildingLaws.{one-builds, Both, both-builds, builds-as, First, Second, first-builds, second-builds}
 use Rattle.tb_query.specs.declared.path.Path.{Path}
@@ -21,9 +20,6 @@ use Rattle.tb_query.specs.declared.path.Step.{Step}
 use Rattle.tb_flwor.specs.Value.{Names, step_from, more_steps, steps_of, path_of, longpath_of, document_in}
 use Rattle.tb_flwor.specs.Built.{Gives, IsDocument, AreSteps, AreMore, IsStart, IsPath, IsLongpath}
 use Rattle.tb_pattern.proofs.RunLaws.{ListSoFar, item-next, list-end, many-built, many-none}
-
-abbrev Next : List Tok → Tree → Type 0
-Next s v = v ≡ next s
 
 pub step-builds : (s left : List Tok) (is : Test) → Builds test (IsTest is) (drop 1 s) left
     → Builds step (Gives step_from (record { axis = axis_of (next s); test = is })) s left
@@ -65,12 +61,6 @@ more-none s e = builds-as (many step) (λ v. v ≡ nothing) (AreMore []) s s (λ
 
 -- Where a path starts.
 
-abbrev terminal : List ℕ → List ℕ
-terminal text = terminal_of kind.Sign text ∷ []
-
-abbrev doc_terminal : List ℕ
-doc_terminal = terminals.DOCUMENT ∷ []
-
 module _ (s : List Tok) where
   abbrev s1 : List Tok
   s1 = drop 1 s
@@ -95,29 +85,26 @@ module _ (s : List Tok) where
       builds-as doc (Both (Next s) Open) (IsDocument name) s (drop 1 s3)
       (λ v b. ap document_in (b.pair_is ∙ ap (λ x. pair b.one x) (b.two_is.pair_is ∙ ap (λ x. pair b.two_is.one x) b.two_is.two_is.pair_is))
       ∙ ap (λ x. inside (bytes_in x)) b.two_is.two_is.one_is)
-      (both-builds (keyword (codes "DOCUMENT")) (both (sign (codes "(")) (both string (sign (codes ")")))) (Next s) Open s s1 (drop 1 s3) (one-builds doc_terminal s)
-      (both-builds (sign (codes "(")) (both string (sign (codes ")"))) (Next s1) Close s1 s2 (drop 1 s3) (one-builds (terminal (codes "(")) s1)
-      (both-builds string (sign (codes ")")) (Next s2) (Next s3) s2 s3 (drop 1 s3) (one-builds (terminals.QUOTED ∷ []) s2) (one-builds (terminal (codes ")")) s3))))
-
-abbrev variable_terminal : List ℕ
-variable_terminal = terminals.VARIABLE ∷ []
+      (both-builds (keyword (codes "DOCUMENT")) (both (sign (codes "(")) (both string (sign (codes ")")))) (Next s) Open s s1 (drop 1 s3) (one-builds (terminals.DOCUMENT ∷ []) s)
+      (both-builds (sign (codes "(")) (both string (sign (codes ")"))) (Next s1) Close s1 s2 (drop 1 s3) (one-builds (terminals.OPEN ∷ []) s1)
+      (both-builds string (sign (codes ")")) (Next s2) (Next s3) s2 s3 (drop 1 s3) (one-builds (terminals.QUOTED ∷ []) s2) (one-builds (terminals.CLOSE ∷ []) s3))))
 
 -- the variable of the next token
 abbrev pub Var : Names → List Tok → Start
 Var names s = start.Var (place_in (bytes_in (next s)) names)
 
 module _ (names : Names) (s left : List Tok) where
-  pub start-document : (name : List ℕ) → begins doc_terminal s ≡ true → Builds doc (IsDocument name) s left → Builds (either doc variable) (IsStart names (start.Document name)) s left
+  pub start-document : (name : List ℕ) → begins (terminals.DOCUMENT ∷ []) s ≡ true → Builds doc (IsDocument name) s left → Builds (either doc variable) (IsStart names (start.Document name)) s left
   start-document name e is =
       builds-as (either doc variable) (First (IsDocument name)) (IsStart names (start.Document name)) s left
       (λ v f w. ap (λ x. longpath_of names (pair x w)) f.first_is ∙ rw f.one_is refl)
       (first-builds doc variable (IsDocument name) s left e is)
 
-  pub start-variable : begins doc_terminal s ≡ false → Builds (either doc variable) (IsStart names (Var names s)) s (drop 1 s)
+  pub start-variable : begins (terminals.DOCUMENT ∷ []) s ≡ false → Builds (either doc variable) (IsStart names (Var names s)) s (drop 1 s)
   start-variable e =
       builds-as (either doc variable) (Second (Next s)) (IsStart names (Var names s)) s (drop 1 s)
       (λ v f w. ap (λ x. longpath_of names (pair x w)) f.second_is ∙ rw f.two_is refl)
-      (second-builds doc variable (Next s) s (drop 1 s) refl e (one-builds variable_terminal s))
+      (second-builds doc variable (Next s) s (drop 1 s) refl e (one-builds (terminals.VARIABLE ∷ []) s))
 
   -- a path of this start and these steps
   abbrev pub from : Start → List Step → Path
@@ -136,7 +123,7 @@ module _ (names : Names) (s left : List Tok) where
   abbrev from_var : Part
   from_var = both variable (many step)
 
-  pub path-document : (mid : List Tok) (name : List ℕ) (are : List Step) → begins doc_terminal s ≡ true → Builds doc (IsDocument name) s mid → Builds steps (AreSteps are) mid left
+  pub path-document : (mid : List Tok) (name : List ℕ) (are : List Step) → begins (terminals.DOCUMENT ∷ []) s ≡ true → Builds doc (IsDocument name) s mid → Builds steps (AreSteps are) mid left
       → Builds path (IsPath names (from (start.Document name) are)) s left
   path-document mid name are e doc_is steps_are =
       builds-as path (First (Both (IsDocument name) (AreSteps are))) (IsPath names (from (start.Document name) are)) s left
@@ -144,9 +131,9 @@ module _ (names : Names) (s left : List Tok) where
       (first-builds from_doc from_var (Both (IsDocument name) (AreSteps are)) s left e
       (both-builds doc steps (IsDocument name) (AreSteps are) s mid left doc_is steps_are))
 
-  pub path-variable : (are : List Step) → begins doc_terminal s ≡ false → Builds (many step) (AreMore are) (drop 1 s) left → Builds path (IsPath names (from (Var names s) are)) s left
+  pub path-variable : (are : List Step) → begins (terminals.DOCUMENT ∷ []) s ≡ false → Builds (many step) (AreMore are) (drop 1 s) left → Builds path (IsPath names (from (Var names s) are)) s left
   path-variable are e steps_are =
       builds-as path (Second (Both (Next s) (AreMore are))) (IsPath names (from (Var names s) are)) s left
       (λ v f. ap (path_of names) (f.second_is ∙ ap second f.two_is.pair_is) ∙ rw (f.two_is.one_is, f.two_is.two_is) refl)
       (second-builds from_doc from_var (Both (Next s) (AreMore are)) s left refl e
-      (both-builds variable (many step) (Next s) (AreMore are) s (drop 1 s) left (one-builds variable_terminal s) steps_are))
+      (both-builds variable (many step) (Next s) (AreMore are) s (drop 1 s) left (one-builds (terminals.VARIABLE ∷ []) s) steps_are))

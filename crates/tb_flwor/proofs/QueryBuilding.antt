@@ -14,6 +14,7 @@ use Rattle.tb_token.specs.tokens.TerminalNames as terminals
 use Rattle.tb_pattern.specs.BuiltParts as pattern
 use Rattle.tb_pattern.specs.Building.{Come, Builds}
 use Rattle.tb_pattern.proofs.BuildingLaws.{some-none, false-true, come-as}
+use Rattle.tb_pattern.proofs.QueryBuilding.{nothing-left}
 use Rattle.tb_pattern.specs.declared.pattern.Pattern.{Pattern}
 use Rattle.tb_query.specs.declared.query.Flwor as flwor
 use Rattle.tb_query.specs.declared.query.Query.TheVariants.{Match, Flwor}
@@ -23,6 +24,7 @@ use Rattle.tb_flwor.specs.Asked.{IsFlwor}
 use Rattle.tb_flwor.specs.Faults.{AreQuery, first_fault}
 use Rattle.tb_flwor.specs.Built.{Asks}
 use Rattle.tb_flwor.proofs.FaultLaws.{numbers-none}
+use Rattle.tb_flwor.proofs.TokenLaws.{has-one}
 
 -- the query comes next where the tokens are one without fault
 
@@ -36,23 +38,15 @@ read-query s is = by (read rules s (Some (query ∷ []))) refl
 pub query-comes : (s : List Tok) → AreQuery s → first_fault s ≡ None → HaveDigits s → Come false (query ∷ []) s
 query-comes s is fine digits = record { parts = read-query s is; digits = digits; numbers = numbers-none s fine }
 
-swapped : (x y : ℕ) → (x == y) ≡ (y == x || false)
-swapped x y = grind arith
-
 -- the keyword MATCH is the first token of a `MATCH` query, and of no other
 match-starts : (t : Tok) (u : List Tok) → is_match (t ∷ u) ≡ has (first_set match_query) t.terminal
-match-starts t u = swapped t.terminal terminals.MATCH
+match-starts t u = has-one terminals.MATCH t.terminal
 
 pub match-asks : (s : List Tok) (p : Pattern) → is_match s ≡ true → pattern.Asks s p → Asks s (Match p)
 match-asks [] p e asks come = false-true e
 match-asks (t ∷ u) p e asks come =
     let a = asks (come-as false (query ∷ []) (match_query ∷ []) (t ∷ u) (read-first rules match_query flwor t u [] (sym (match-starts t u) ∙ e)) come) in
     (_, by_first a.derived, record { document_is = a.document_is; edges_are = a.edges_are })
-
--- a reading that ends with no part left has no token left
-nothing-left : (s : List Tok) → read rules s (Some []) ≡ None → s ≡ []
-nothing-left [] e = refl
-nothing-left (t ∷ u) e = some-none e
 
 pub flwor-asks : (names : Names) (s left : List Tok) (q : flwor.Flwor) → is_match s ≡ false → names ≡ bound (clauses_in s) → Builds flwor (IsFlwor names q) s left → Asks s (Flwor q)
 flwor-asks names [] left q e names_are is come = some-none come.parts

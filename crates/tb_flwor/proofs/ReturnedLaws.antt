@@ -17,7 +17,7 @@ use Rattle.tb_pattern.specs.BuiltParts.{attribute}
 use Rattle.tb_pattern.proofs.PartLaws.{Of, of_one, of_both, of_first, of_second, of_nothing, of_put, of_none, of_more, of_rule, derived-of, lacks}
 use Rattle.tb_flwor.specs.Constructors.{before_name, behind_return, results}
 use Rattle.tb_flwor.specs.Returned.{tokens_of, back_tree, ResultsAgree}
-use Rattle.tb_flwor.proofs.TokenLaws.{tokens-derived, swapped, only-terminal, second-of}
+use Rattle.tb_flwor.proofs.TokenLaws.{tokens-derived, swapped, has-one, second-of}
 
 -- Before a name every keyword is a name.
 
@@ -180,7 +180,7 @@ flwor-results (of_both {v = c} c_is (of_both {v = m} m_is (of_both {v = w} w_is 
     let others = tokens_of m ++ kept in
     same-before terminals.FOR ((tokens_of c ++ others) ++ []) refl ∙ skip c others [] (clause-calm c_is) ∙ skip m kept [] (more-clauses m_is) ∙ skip w grouped [] (where-calm w_is)
     ∙ skip g ordered [] (group-calm g_is) ∙ skip o returned [] (order-calm o_is)
-    ∙ return-here t (tokens_of b ++ []) (only-terminal terminals.RETURN t.terminal h) ∙ append-nil (tokens_of b)
+    ∙ return-here t (tokens_of b ++ []) (has-one terminals.RETURN t.terminal ∙ h) ∙ append-nil (tokens_of b)
 
 -- so it is of every query of clauses
 pub results-agree : ResultsAgree

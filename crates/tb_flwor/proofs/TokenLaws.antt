@@ -1,8 +1,7 @@
 -- A list has the tokens of its trees; and two laws on one terminal.
 use Rattle.std.proofs.Common.{◌≡◌, ℕ, Bool, true, false, ◌||◌, ◌==◌, List, [], ◌∷◌, ◌++◌, refl, sym, ap, ◌∙◌, append_assoc, arith}
-use Rattle.tb_token.specs.grammar.Grammar.{Tok, Part, either}
+use Rattle.tb_token.specs.grammar.Grammar.{Tok, Part, either, has}
 use Rattle.tb_token.specs.grammar.Sentences.{Tree, second, Derives, at_end, by_one, by_both, by_first, by_second, left_out, put_in, no_more, one_more, by_rule}
-use Rattle.tb_token.proofs.grammar.TerminalLaws.{none-true}
 use Rattle.tb_token.specs.grammar.Queries.{rules}
 use Rattle.tb_pattern.proofs.PartLaws.{Of, of_second}
 use Rattle.tb_flwor.specs.Returned.{tokens_of}
@@ -35,10 +34,6 @@ second-of (of_second f) = f
 pub swapped : (x y : ℕ) → (x == y) ≡ (y == x)
 swapped x y = grind arith
 
--- a terminal that is the only one
-pub only-terminal : (x y : ℕ) → (x == y || false) ≡ true → (y == x) ≡ true
-only-terminal x y e = by (x == y) refl e
-  where
-    by : (b : Bool) → (x == y) ≡ b → (b || false) ≡ true → (y == x) ≡ true
-    by true f g = swapped y x ∙ f
-    by false f g = none-true false refl g
+-- a terminal is that of a list of one
+pub has-one : (c x : ℕ) → (x == c) ≡ has (c ∷ []) x
+has-one c x = grind arith

@@ -1,8 +1,6 @@
 //! Where tokens stop being a query.
 
 ghost use Rattle.std.specs.Prelude.{◌≤◌, IfOk, length};
-ghost use Rattle.tb_token.specs.grammar.Queries.{rules, query};
-ghost use Rattle.tb_token.specs.reading.Calls.{Says};
 ghost use Rattle.tb_flwor.specs.Calls.{FirstWrong};
 
 use crate::grammar::{CONS_REST, QUERY};
@@ -21,18 +19,5 @@ pub fn first_wrong_query(alloc: Global, tokens: &[Lexeme]) -> Result<Option<u32>
         rules: &[&EDGES_REST, &CONS_REST],
         other: &NAME,
     };
-    first_wrong_by(alloc, &grammar, tokens)
-}
-
-/// The same by a grammar that is that of queries.
-fn first_wrong_by(
-    alloc: Global,
-    grammar: &Grammar,
-    tokens: &[Lexeme],
-) -> Result<Option<u32>, AllocError>
-    requires short { length tokens.now ≤ 65536 }
-    requires says { Says grammar.now rules query }
-    ensures { IfOk result (FirstWrong tokens.now) }
-{
-    first_wrong(alloc, grammar, tokens)
+    first_wrong(alloc, &grammar, tokens)
 }
