@@ -1,7 +1,7 @@
-//! What no clause says: that texts whose wrong token was found by hand are read with ample memory, and
-//! that long and deep ones are.
+//! What no clause says: that texts whose wrong token, fault or query was found by hand are read with
+//! ample memory, and that long and deep ones are.
 
-use crate::first_wrong_query;
+use crate::{QueryFault, first_wrong_query, read_query};
 use std::alloc::{AllocError, Global};
 use std::test::Fail;
 use tb_token::{lexemes, tokens};
@@ -26,6 +26,99 @@ fn wrong_in(alloc: Global, text: &[u8]) -> Result<u32, AllocError> {
         return Err(AllocError);
     }
     Ok(first_wrong_query(alloc, read.as_slice())?.unwrap_or(0))
+}
+
+// How many rows, from the first on, are wrong at the token that is wanted.
+fn wrong_as_wanted(alloc: Global, rows: &[(&[u8], u32)]) -> Result<usize, AllocError> {
+    for (at, (text, wanted)) in rows.iter().enumerate() {
+        if wrong_in(alloc, text)? != *wanted {
+            return Ok(at);
+        }
+    }
+    Ok(rows.len())
+}
+
+// How many rows, from the first on, have the fault that is wanted, or none.
+fn faults_as_wanted(alloc: Global, rows: &[(&[u8], Option<QueryFault>)]) -> usize {
+    for (at, (text, wanted)) in rows.iter().enumerate() {
+        if read_query(alloc, text).err() != *wanted {
+            return at;
+        }
+    }
+    rows.len()
+}
+
+// A text: the prefix, so many times the middle, so many times what closes it, and the back. In the
+// place of `#` in the middle stands another name of three letters each time.
+#[derive(Clone, Copy, Debug)]
+struct Made<'a> {
+    prefix: &'a [u8],
+    middle: &'a [u8],
+    close: &'a [u8],
+    times: u32,
+    back: &'a [u8],
+}
+
+// A text with nothing to close.
+fn repeated<'a>(prefix: &'a [u8], middle: &'a [u8], times: u32, back: &'a [u8]) -> Made<'a> {
+    Made {
+        prefix,
+        middle,
+        close: b"",
+        times,
+        back,
+    }
+}
+
+impl<'a> Made<'a> {
+    fn text(&self, alloc: Global) -> Result<Vec<u8>, AllocError> {
+        let mut text = Vec::new(alloc);
+        text.extend_from_slice(self.prefix)?;
+        for turn in 0..self.times {
+            push_named(&mut text, self.middle, turn)?;
+        }
+        for _turn in 0..self.times {
+            text.extend_from_slice(self.close)?;
+        }
+        text.extend_from_slice(self.back)?;
+        Ok(text)
+    }
+
+    fn fault(&self, alloc: Global) -> Option<QueryFault> {
+        match self.text(alloc) {
+            Ok(text) => read_query(alloc, text.as_slice()).err(),
+            Err(_) => Some(QueryFault::NoMemory),
+        }
+    }
+}
+
+fn push_named(text: &mut Vec<u8>, middle: &[u8], turn: u32) -> Result<(), AllocError> {
+    for byte in middle {
+        if *byte == b'#' {
+            text.extend_from_slice(&name_of(turn))?;
+        } else {
+            text.push(*byte)?;
+        }
+    }
+    Ok(())
+}
+
+fn name_of(number: u32) -> [u8; 3] {
+    [
+        b'a' + (number / 676 % 26) as u8,
+        b'a' + (number / 26 % 26) as u8,
+        b'a' + (number % 26) as u8,
+    ]
+}
+
+// How many rows, from the first on, have the fault that is wanted, or none.
+fn made_as_wanted(alloc: Global, rows: &[(Made, Option<QueryFault>)]) -> usize {
+    for (at, (made, wanted)) in rows.iter().enumerate() {
+        if made.fault(alloc) != *wanted {
+            return at;
+        }
+    }
+    rows.len()
 }
 
 #[test]
@@ -55,42 +148,35 @@ fn the_first_wrong_token_is_told(rt: HostRuntime) -> Result<(), Fail> {
         ),
         (b"FOR $x IN document('d')//x WHERE sum($x RETURN $x", 14),
     ];
-    for (text, wanted) in rows {
-        let wrong = wrong_in(rt.alloc(), text).map_err(|_fault| "memory")?;
-        assert_eq!(rt; wrong, wanted);
-    }
+    let as_wanted = wrong_as_wanted(rt.alloc(), &rows).map_err(|_fault| "memory")?;
+    assert_eq!(rt; as_wanted, rows.len());
     Ok(())
 }
 
-// The prefix, so many times the middle, and the back.
-fn repeated(
-    alloc: Global,
-    prefix: &[u8],
-    middle: &[u8],
-    times: usize,
-    back: &[u8],
-) -> Result<Vec<u8>, AllocError> {
-    let mut text = Vec::new(alloc);
-    text.extend_from_slice(prefix)?;
-    for _turn in 0..times {
-        text.extend_from_slice(middle)?;
-    }
-    text.extend_from_slice(back)?;
-    Ok(text)
+fn wrong_in_made(alloc: Global, made: &Made) -> Result<u32, AllocError> {
+    let text = made.text(alloc)?;
+    wrong_in(alloc, text.as_slice())
 }
 
 #[test]
 fn long_and_deep_texts_are_read(rt: HostRuntime) -> Result<(), Fail> {
-    let prefix = b"FOR $x IN document('d')//x RETURN ";
-    let rows: [(&[u8], &[u8], usize, &[u8], u32); 3] = [
-        (prefix, b"<a>", 21_000, b"", 63_011),
-        (b"FOR $x IN document('d')", b"/a", 32_000, b" RETURN $x", 0),
-        (b"MATCH document('d') ", b"(/-a", 16_000, b"", 64_006),
+    let rows = [
+        (
+            repeated(b"FOR $x IN document('d')//x RETURN ", b"<a>", 21_000, b""),
+            63_011,
+        ),
+        (
+            repeated(b"FOR $x IN document('d')", b"/a", 32_000, b" RETURN $x"),
+            0,
+        ),
+        (
+            repeated(b"MATCH document('d') ", b"(/-a", 16_000, b""),
+            64_006,
+        ),
     ];
-    for (prefix, middle, times, back, wanted) in rows {
-        let text = repeated(rt.alloc(), prefix, middle, times, back).map_err(|_fault| "memory")?;
-        let wrong = wrong_in(rt.alloc(), text.as_slice()).map_err(|_fault| "memory")?;
-        assert_eq!(rt; wrong, wanted);
+    for (made, wanted) in &rows {
+        let wrong = wrong_in_made(rt.alloc(), made).map_err(|_fault| "memory")?;
+        assert_eq!(rt; wrong, *wanted);
     }
     Ok(())
 }

@@ -1,6 +1,7 @@
 //! What no clause says: that texts whose faults were found by hand are told with ample memory, and
 //! that long ones are.
 
+use super::{Made, repeated};
 use crate::constructors::{first_repeated_attribute, first_wrong_tag, is_nested, results};
 use crate::variables::{bound, first_repeated, first_unknown, is_match};
 use std::alloc::{AllocError, Global};
@@ -120,58 +121,25 @@ fn each_fault_is_told_by_its_token(rt: HostRuntime) -> Result<(), Fail> {
     Ok(())
 }
 
-// The prefix, so many times the middle, and the back. In the place of `#` in the middle stands another
-// name of three letters each time.
-fn repeated(
-    alloc: Global,
-    prefix: &[u8],
-    middle: &[u8],
-    times: u32,
-    back: &[u8],
-) -> Result<Vec<u8>, AllocError> {
-    let mut text = Vec::new(alloc);
-    text.extend_from_slice(prefix)?;
-    for turn in 0..times {
-        for byte in middle {
-            if *byte == b'#' {
-                text.extend_from_slice(&name_of(turn))?;
-            } else {
-                text.push(*byte)?;
-            }
-        }
-    }
-    text.extend_from_slice(back)?;
-    Ok(text)
-}
-
-fn name_of(number: u32) -> [u8; 3] {
-    [
-        b'a' + (number / 676 % 26) as u8,
-        b'a' + (number / 26 % 26) as u8,
-        b'a' + (number % 26) as u8,
-    ]
+fn found_in_made(alloc: Global, made: &Made) -> Result<Found, AllocError> {
+    let text = made.text(alloc)?;
+    found_in(alloc, text.as_slice())
 }
 
 #[test]
 fn long_texts_are_told(rt: HostRuntime) -> Result<(), Fail> {
     let prefix = b"FOR $x IN document('d')/a RETURN ";
-    let rows: [(&[u8], &[u8], u32, &[u8], Found); 6] = [
-        (prefix, b"<a>", 32, b"", NOTHING),
+    let rows = [
+        (repeated(prefix, b"<a>", 32, b""), NOTHING),
         (
-            prefix,
-            b"<a>",
-            33,
-            b"",
+            repeated(prefix, b"<a>", 33, b""),
             Found {
                 nested: true,
                 ..NOTHING
             },
         ),
         (
-            prefix,
-            b"<a>",
-            21_000,
-            b"</b>",
+            repeated(prefix, b"<a>", 21_000, b"</b>"),
             Found {
                 nested: true,
                 wrong_tag: 63_012,
@@ -179,20 +147,24 @@ fn long_texts_are_told(rt: HostRuntime) -> Result<(), Fail> {
             },
         ),
         (
-            b"FOR $x IN document('d')/a RETURN <a",
-            b" #=''",
-            9_000,
-            b" aaa=''/>",
+            repeated(
+                b"FOR $x IN document('d')/a RETURN <a",
+                b" #=''",
+                9_000,
+                b" aaa=''/>",
+            ),
             Found {
                 attribute: 27_013,
                 ..NOTHING
             },
         ),
         (
-            b"FOR $x IN document('d')/a",
-            b",$# IN $x/b",
-            500,
-            b",$aaa IN $x/b RETURN $x",
+            repeated(
+                b"FOR $x IN document('d')/a",
+                b",$# IN $x/b",
+                500,
+                b",$aaa IN $x/b RETURN $x",
+            ),
             Found {
                 bound: 502,
                 repeated: 3_011,
@@ -200,20 +172,21 @@ fn long_texts_are_told(rt: HostRuntime) -> Result<(), Fail> {
             },
         ),
         (
-            b"FOR $x IN document('d')/a WHERE ",
-            b"$x=$x AND ",
-            6_000,
-            b"$y=$x RETURN $x",
+            repeated(
+                b"FOR $x IN document('d')/a WHERE ",
+                b"$x=$x AND ",
+                6_000,
+                b"$y=$x RETURN $x",
+            ),
             Found {
                 unknown: 24_011,
                 ..NOTHING
             },
         ),
     ];
-    for (prefix, middle, times, back, wanted) in rows {
-        let text = repeated(rt.alloc(), prefix, middle, times, back).map_err(|_fault| "memory")?;
-        let found = found_in(rt.alloc(), text.as_slice()).map_err(|_fault| "memory")?;
-        assert_eq!(rt; found, wanted);
+    for (made, wanted) in &rows {
+        let found = found_in_made(rt.alloc(), made).map_err(|_fault| "memory")?;
+        assert_eq!(rt; found, *wanted);
     }
     Ok(())
 }
