@@ -1,6 +1,8 @@
 -- Which faults the tests over tokens give, and what is so where they give none.
 use Rattle.std.proofs.Common.{◌≡◌, ℕ, Bool, true, false, cond, List, Option, Some, None, refl, sym}
 use Rattle.std.specs.Prelude.{⊤, nat_lt, Err}
+use Rattle.std.proofs.lemmas.Option.{none-some, same_Some}
+use Rattle.tb_tree.proofs.lists.Options.{some-none, cond-none}
 use Rattle.tb_token.specs.grammar.Grammar.{Tok}
 use Rattle.tb_token.specs.tokens.Lexemes.{toks_of}
 use Rattle.tb_token.specs.declared.lexer.token.Token.{Token}
@@ -11,15 +13,6 @@ use Rattle.tb_flwor.specs.Faults.{is_too_nested, variables_in, results_in, or_el
 use Rattle.tb_flwor.specs.Calls.{Checks}
 use Rattle.tb_flwor.specs.declared.fault.QueryFault.{QueryFault}
 use Rattle.tb_flwor.specs.declared.fault.QueryFault.TheVariants.{TooLong, BadByte, OpenString, Syntax, TooNested, TooManyNodes, TooManyVariables, UnknownVariable, RepeatedVariable, LiteralPast, WrongTag, RepeatedAttribute, NoMemory}
-
-none-some : {A : Type 0} (f : QueryFault) → ◌≡◌ {A = Option QueryFault} None (Some f) → A
-none-some f e = absurd cc
-
-same-some : (f g : QueryFault) → ◌≡◌ {A = Option QueryFault} (Some f) (Some g) → f ≡ g
-same-some f g e = cc
-
-some-none : {A : Type 0} (f : QueryFault) → ◌≡◌ {A = Option QueryFault} (Some f) None → A
-some-none f e = absurd cc
 
 -- the fault stands at a token behind syntax
 abbrev IsAtToken : QueryFault → Type 0
@@ -32,7 +25,7 @@ IsAtToken _ = ⊥
 
 else-token : (o : Option ℕ) (fault : ℕ → QueryFault) (rest : Option QueryFault) (f : QueryFault) → ((n : ℕ) → IsAtToken (fault n)) → (rest ≡ Some f → IsAtToken f)
     → or_else o fault rest ≡ Some f → IsAtToken f
-else-token (Some n) fault rest f is others e = let same = same-some (fault n) f e in rw (sym same) (is n)
+else-token (Some n) fault rest f is others e = let same = same_Some (fault n) f e in rw (sym same) (is n)
 else-token None fault rest f is others e = others e
 
 at-token : (s : List Tok) (f : QueryFault) → fault_at_token s ≡ Some f → IsAtToken f
@@ -41,7 +34,7 @@ at-token s f e =
     (else-token (first_repeated (clauses_in s)) RepeatedVariable _ f (λ n. tt)
     (else-token (pattern.first_past s) LiteralPast _ f (λ n. tt)
     (else-token (first_wrong_tag (results_in s)) WrongTag _ f (λ n. tt)
-    (else-token (first_repeated_attribute (results_in s)) RepeatedAttribute None f (λ n. tt) (none-some f))))) e
+    (else-token (first_repeated_attribute (results_in s)) RepeatedAttribute None f (λ n. tt) (λ g. absurd (none-some f g)))))) e
 
 -- so it is told as it is
 pub token-checks : (s : List Tok) (f : QueryFault) → AreQuery s → first_fault s ≡ Some f → fault_at_token s ≡ Some f → Checks s (Err f)
@@ -80,17 +73,14 @@ text-fault text ts NoMemory are c = tt
 
 -- Where there is no fault, no number is past its range.
 
-cond-none : (b : Bool) (f : QueryFault) (o : Option QueryFault) → cond b (Some f) o ≡ None → o ≡ None
-cond-none true f o e = some-none f e
-cond-none false f o e = e
-
 else-none : (o : Option ℕ) (fault : ℕ → QueryFault) (rest : Option QueryFault) → or_else o fault rest ≡ None → (o ≡ None) × (rest ≡ None)
-else-none (Some n) fault rest e = some-none (fault n) e
+else-none (Some n) fault rest e = absurd (some-none (fault n) e)
 else-none None fault rest e = (refl, e)
 
 pub numbers-none : (s : List Tok) → first_fault s ≡ None → pattern.first_past s ≡ None
 numbers-none s e =
-    let at = cond-none (nat_lt 32 (variables_in s)) TooManyVariables _ (cond-none (nat_lt 64 (pattern.tests_of s)) TooManyNodes _ (cond-none (is_too_nested s) TooNested _ e)) in
+    let few = cond-none (is_too_nested s) TooNested _ e in
+    let at = (cond-none (nat_lt 32 (variables_in s)) TooManyVariables _ (cond-none (nat_lt 64 (pattern.tests_of s)) TooManyNodes _ few.1).1).1 in
     let known = else-none (first_unknown (clauses_in s)) UnknownVariable _ at in
     let once = else-none (first_repeated (clauses_in s)) RepeatedVariable _ known.1 in
     (else-none (pattern.first_past s) LiteralPast _ once.1).0
