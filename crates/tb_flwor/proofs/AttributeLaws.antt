@@ -1,4 +1,4 @@
--- Names of attributes one token after the other; only which names are among them tells.
+-- BoundNames of attributes one token after the other; only which names are among them tells.
 use Rattle.std.proofs.Common.{◌≡◌, ◌==◌, ℕ, Bool, true, false, not, ◌&&◌, List, [], ◌∷◌, ◌++◌, refl, ◌∙◌}
 use Rattle.std.specs.List.{list_any}
 use Rattle.std.specs.Str.{bytes_eq}

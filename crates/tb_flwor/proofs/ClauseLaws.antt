@@ -14,7 +14,7 @@ use Rattle.tb_pattern.proofs.BuildingLaws.{one-builds, Both, both-builds, builds
 use Rattle.tb_query.specs.declared.clause.Clause.{Clause}
 use Rattle.tb_query.specs.declared.clause.Clause.TheVariants.{For, Let}
 use Rattle.tb_query.specs.declared.path.Path.{Path}
-use Rattle.tb_flwor.specs.Value.{Names, bind_from, more_binds, clause_from, more_clauses}
+use Rattle.tb_flwor.specs.Value.{BoundNames, bind_from, more_binds, clause_from, more_clauses}
 use Rattle.tb_flwor.specs.Built.{Gives, GivesAll, IsLongpath, allowing, IsAllowed, AreBinds, AreMoreClauses, BuildsClauses}
 use Rattle.tb_pattern.proofs.RunLaws.{ListSoFar, Puts, list-start, list-next, list-end, behind-next, behind-end}
 
@@ -30,7 +30,7 @@ allowed-there s e =
 pub allowed-none : (s : List Tok) → begins (terminals.ALLOWING ∷ []) s ≡ false → Builds (maybe allowing) (IsAllowed false) s s
 allowed-none s e = builds-as (maybe allowing) (λ v. v ≡ nothing) (IsAllowed false) s s (λ v f. ap is_there f) (left_out-builds allowing s e)
 
-module _ (names : Names) where
+module _ (names : BoundNames) where
   -- the number of the variable of the next token
   abbrev var : List Tok → ℕ
   var s = place_in (bytes_in (next s)) names

@@ -20,14 +20,14 @@ use Rattle.tb_query.specs.declared.operand.Comparison.{Comparison}
 use Rattle.tb_query.specs.declared.operand.Operand.{Operand}
 use Rattle.tb_query.specs.declared.operand.Right.{Right}
 use Rattle.tb_query.specs.declared.operand.Right.TheVariants as right
-use Rattle.tb_flwor.specs.Value.{Names, right_of, cond_from, more_conds, conds_of}
+use Rattle.tb_flwor.specs.Value.{BoundNames, right_of, cond_from, more_conds, conds_of}
 use Rattle.tb_flwor.specs.Built.{Gives, IsOperand, IsRight, AreConds}
 use Rattle.tb_pattern.proofs.RunLaws.{ListSoFar, list-start, behind-next, behind-end}
 
 abbrev operand_terminals : List ℕ
 operand_terminals = first_set operand
 
-module _ (names : Names) where
+module _ (names : BoundNames) where
   pub right-operand : (is : Operand) (s left : List Tok) → begins operand_terminals s ≡ true → Builds operand (IsOperand names is) s left
       → BuildsApart (either operand literal) (IsRight names (right.Operand is)) s left
   right-operand is s left e operand_is ps come =

@@ -18,7 +18,7 @@ use Rattle.tb_query.specs.declared.back.Cons as cons
 use Rattle.tb_query.specs.declared.back.Part as part
 use Rattle.tb_query.specs.declared.back.Part.TheVariants as parts
 use Rattle.tb_query.specs.declared.path.Path.{Path}
-use Rattle.tb_flwor.specs.Value.{Names}
+use Rattle.tb_flwor.specs.Value.{BoundNames}
 use Rattle.tb_flwor.specs.Results.{attr_from, attrs_of, cons_in, cons_behind, parts_in, part_from, back_in}
 use Rattle.tb_flwor.specs.Built.{Gives, IsPath, IsContent, AreAttrs, IsCons, inside, AreInside, IsPart, AreParts, IsBack}
 use Rattle.tb_pattern.proofs.RunLaws.{SoFar, far-start, far-next, run-end, ListSoFar, list-start, list-end, item-next, many-none}
@@ -38,7 +38,7 @@ before-all : (found : List part.Part) → parts_before found no_parts ≡ plain_
 before-all [] = refl
 before-all (f ∷ fs) = ap (λ ps. before (part_of f) ps) (before-all fs)
 
-module _ (names : Names) where
+module _ (names : BoundNames) where
   -- Attributes.
 
   module _ (is : Content) (s left : List Tok) where

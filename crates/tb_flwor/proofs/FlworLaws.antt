@@ -10,11 +10,11 @@ use Rattle.tb_token.specs.tokens.TerminalNames as terminals
 use Rattle.tb_pattern.specs.Building.{Next, Builds}
 use Rattle.tb_pattern.proofs.BuildingLaws.{one-builds, Both, both-builds, builds-as}
 use Rattle.tb_query.specs.declared.query.Flwor as query
-use Rattle.tb_flwor.specs.Value.{Names, clause_from, more_clauses}
+use Rattle.tb_flwor.specs.Value.{BoundNames, clause_from, more_clauses}
 use Rattle.tb_flwor.specs.Asked.{IsFlwor}
 use Rattle.tb_flwor.specs.Built.{GivesAll, AreMoreClauses, BuildsClauses, AreConds, IsGroup, AreKeys, IsBack}
 
-module _ (names : Names) (q : query.Flwor) (s l1 l2 l3 l4 l5 : List Tok) (clauses_are : BuildsClauses names q.clauses s l1) where
+module _ (names : BoundNames) (q : query.Flwor) (s l1 l2 l3 l4 l5 : List Tok) (clauses_are : BuildsClauses names q.clauses s l1) where
   abbrev returned : Part
   returned = both (keyword (codes "RETURN")) back
 

@@ -14,7 +14,7 @@ use Rattle.tb_query.specs.declared.back.Content.TheVariants as content
 use Rattle.tb_query.specs.declared.operand.Operand.{Operand}
 use Rattle.tb_query.specs.declared.operand.Operand.TheVariants as operand
 use Rattle.tb_query.specs.declared.path.Path.{Path}
-use Rattle.tb_flwor.specs.Value.{Names, agg_of, operand_of}
+use Rattle.tb_flwor.specs.Value.{BoundNames, agg_of, operand_of}
 use Rattle.tb_flwor.specs.Results.{braced_of, content_of}
 use Rattle.tb_flwor.specs.Built.{IsPath, IsOperand, IsBraced, IsContent}
 
@@ -24,7 +24,7 @@ path_terminals = terminals.DOCUMENT ∷ terminals.VARIABLE ∷ []
 abbrev agg_terminals : List ℕ
 agg_terminals = terminals.COUNT ∷ terminals.SUM ∷ terminals.MIN ∷ terminals.MAX ∷ []
 
-module _ (names : Names) (s left : List Tok) where
+module _ (names : BoundNames) (s left : List Tok) where
   abbrev closed : Part
   closed = both path (sign (codes ")"))
 
@@ -67,7 +67,7 @@ module _ (names : Names) (s left : List Tok) where
       (λ v f. ap (content_of names) f.second_is ∙ f.two_is)
       (second-builds string braced (IsBraced names (content.Operand is)) s (drop 1 left) refl e (braced-builds is operand_is))
 
-pub content-text : (names : Names) (s : List Tok) → begins (terminals.QUOTED ∷ []) s ≡ true
+pub content-text : (names : BoundNames) (s : List Tok) → begins (terminals.QUOTED ∷ []) s ≡ true
     → Builds (either string braced) (IsContent names (content.Text (inside (bytes_in (next s))))) s (drop 1 s)
 content-text names s e =
     builds-as (either string braced) (First (Next s)) (IsContent names (content.Text (inside (bytes_in (next s))))) s (drop 1 s)

@@ -15,7 +15,7 @@ use Rattle.tb_query.specs.declared.clause.GroupBy.{GroupBy}
 use Rattle.tb_query.specs.declared.clause.Key.{Key}
 use Rattle.tb_query.specs.declared.operand.Operand.{Operand}
 use Rattle.tb_query.specs.declared.path.Path.{Path}
-use Rattle.tb_flwor.specs.Value.{Names, is_keyword, group_of, key_from, more_keys, keys_of}
+use Rattle.tb_flwor.specs.Value.{BoundNames, is_keyword, group_of, key_from, more_keys, keys_of}
 use Rattle.tb_flwor.specs.Built.{Gives, IsPath, IsOperand, IsGroup, direction, IsTurned, AreKeys}
 use Rattle.tb_flwor.proofs.TokenLaws.{has-one}
 use Rattle.tb_pattern.proofs.RunLaws.{ListSoFar, list-start, behind-next, behind-end}
@@ -38,7 +38,7 @@ turned-there s e =
 pub turned-none : (s : List Tok) → begins direction_terminals s ≡ false → Builds (maybe direction) (IsTurned false) s s
 turned-none s e = builds-as (maybe direction) (λ v. v ≡ nothing) (IsTurned false) s s (λ v f. ap (is_keyword (codes "DESCENDING")) f) (left_out-builds direction s e)
 
-module _ (names : Names) where
+module _ (names : BoundNames) where
   -- GROUP BY VARIABLE ":=" path
   module _ (s left : List Tok) (path_is : Path) where
     abbrev s1 : List Tok

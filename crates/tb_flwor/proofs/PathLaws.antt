@@ -17,7 +17,7 @@ use Rattle.tb_query.specs.declared.path.Path.{Path}
 use Rattle.tb_query.specs.declared.path.Start.{Start}
 use Rattle.tb_query.specs.declared.path.Start.TheVariants as start
 use Rattle.tb_query.specs.declared.path.Step.{Step}
-use Rattle.tb_flwor.specs.Value.{Names, step_from, more_steps, steps_of, path_of, longpath_of, document_in}
+use Rattle.tb_flwor.specs.Value.{BoundNames, step_from, more_steps, steps_of, path_of, longpath_of, document_in}
 use Rattle.tb_flwor.specs.Built.{Gives, IsDocument, AreSteps, AreMore, IsStart, IsPath, IsLongpath}
 use Rattle.tb_pattern.proofs.RunLaws.{ListSoFar, item-next, list-end, many-built, many-none}
 
@@ -90,10 +90,10 @@ module _ (s : List Tok) where
       (both-builds string (sign (codes ")")) (Next s2) (Next s3) s2 s3 (drop 1 s3) (one-builds (terminals.QUOTED ∷ []) s2) (one-builds (terminals.CLOSE ∷ []) s3))))
 
 -- the variable of the next token
-abbrev pub Var : Names → List Tok → Start
+abbrev pub Var : BoundNames → List Tok → Start
 Var names s = start.Var (place_in (bytes_in (next s)) names)
 
-module _ (names : Names) (s left : List Tok) where
+module _ (names : BoundNames) (s left : List Tok) where
   pub start-document : (name : List ℕ) → begins (terminals.DOCUMENT ∷ []) s ≡ true → Builds doc (IsDocument name) s left → Builds (either doc variable) (IsStart names (start.Document name)) s left
   start-document name e is =
       builds-as (either doc variable) (First (IsDocument name)) (IsStart names (start.Document name)) s left

@@ -19,7 +19,7 @@ use Rattle.tb_pattern.specs.declared.pattern.Pattern.{Pattern}
 use Rattle.tb_query.specs.declared.query.Flwor as flwor
 use Rattle.tb_query.specs.declared.query.Query.TheVariants.{Match, Flwor}
 use Rattle.tb_flwor.specs.Variables.{is_match, clauses_in, bound}
-use Rattle.tb_flwor.specs.Value.{Names}
+use Rattle.tb_flwor.specs.Value.{BoundNames}
 use Rattle.tb_flwor.specs.Asked.{IsFlwor}
 use Rattle.tb_flwor.specs.Faults.{AreQuery, first_fault}
 use Rattle.tb_flwor.specs.Built.{Asks}
@@ -48,7 +48,7 @@ match-asks (t ∷ u) p e asks come =
     let a = asks (come-as false (query ∷ []) (match_query ∷ []) (t ∷ u) (read-first rules match_query flwor t u [] (sym (match-starts t u) ∙ e)) come) in
     (_, by_first a.derived, record { document_is = a.document_is; edges_are = a.edges_are })
 
-pub flwor-asks : (names : Names) (s left : List Tok) (q : flwor.Flwor) → is_match s ≡ false → names ≡ bound (clauses_in s) → Builds flwor (IsFlwor names q) s left → Asks s (Flwor q)
+pub flwor-asks : (names : BoundNames) (s left : List Tok) (q : flwor.Flwor) → is_match s ≡ false → names ≡ bound (clauses_in s) → Builds flwor (IsFlwor names q) s left → Asks s (Flwor q)
 flwor-asks names [] left q e names_are is come = some-none come.parts
 flwor-asks names (t ∷ u) left q e names_are is come =
     let b = is [] false (come-as false (query ∷ []) (flwor ∷ []) (t ∷ u) (read-second rules match_query flwor t u [] (sym (match-starts t u) ∙ e)) come) in

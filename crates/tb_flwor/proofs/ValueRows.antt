@@ -16,7 +16,7 @@ use Rattle.tb_query.specs.declared.operand.Operand.TheVariants as operand
 use Rattle.tb_query.specs.declared.operand.Right.TheVariants as right
 use Rattle.tb_query.specs.declared.path.Path.{Path}
 use Rattle.tb_query.specs.declared.path.Start.TheVariants as start
-use Rattle.tb_flwor.specs.Value.{Names, path_of, longpath_of, operand_of, clause_from, cond_from, group_of, key_from}
+use Rattle.tb_flwor.specs.Value.{BoundNames, path_of, longpath_of, operand_of, clause_from, cond_from, group_of, key_from}
 use Rattle.tb_flwor.specs.Results.{cons_behind}
 
 abbrev tok : Kind → List ℕ → Tree
@@ -28,7 +28,7 @@ sign text = tok kind.Sign text
 abbrev keyword : List ℕ → Tree
 keyword text = tok kind.Word text
 
-abbrev x_and_y : Names
+abbrev x_and_y : BoundNames
 x_and_y = codes "$x" ∷ codes "$y" ∷ []
 
 abbrev x : Tree

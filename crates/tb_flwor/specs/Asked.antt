@@ -15,34 +15,34 @@ use Rattle.tb_query.specs.declared.query.Flwor as flwor
 use Rattle.tb_query.specs.declared.query.Query.{Query}
 use Rattle.tb_query.specs.declared.query.Query.TheVariants.{Match, Flwor}
 use Rattle.tb_flwor.specs.Variables.{bound}
-use Rattle.tb_flwor.specs.Value.{Names, clause_from, more_clauses, conds_of, group_of, keys_of}
+use Rattle.tb_flwor.specs.Value.{BoundNames, clause_from, more_clauses, conds_of, group_of, keys_of}
 use Rattle.tb_flwor.specs.Results.{back_in}
 
 -- What a query of clauses has, part by part:
 -- clause { clause } [ where ] [ group ] [ order ] RETURN back
 
-abbrev pub clauses_in_tree : Names → Tree → List Clause
+abbrev pub clauses_in_tree : BoundNames → Tree → List Clause
 clauses_in_tree names (pair c (pair more _)) = clause_from names c (more_clauses names more)
 clauses_in_tree names _ = []
 
-abbrev pub conds_in_tree : Names → Tree → List Comparison
+abbrev pub conds_in_tree : BoundNames → Tree → List Comparison
 conds_in_tree names (pair _ (pair _ (pair w _))) = conds_of names w
 conds_in_tree names _ = []
 
-abbrev pub group_in_tree : Names → Tree → Option GroupBy
+abbrev pub group_in_tree : BoundNames → Tree → Option GroupBy
 group_in_tree names (pair _ (pair _ (pair _ (pair g _)))) = group_of names g
 group_in_tree names _ = None
 
-abbrev pub keys_in_tree : Names → Tree → List Key
+abbrev pub keys_in_tree : BoundNames → Tree → List Key
 keys_in_tree names (pair _ (pair _ (pair _ (pair _ (pair o _))))) = keys_of names o
 keys_in_tree names _ = []
 
-abbrev pub back_in_tree : Names → Tree → PlainBack
+abbrev pub back_in_tree : BoundNames → Tree → PlainBack
 back_in_tree names (pair _ (pair _ (pair _ (pair _ (pair _ (pair _ b)))))) = back_in names b
 back_in_tree names _ = back_in names nothing
 
 -- the query of clauses is what the tree stands for, where these names are bound
-pub record IsFlwor (names : Names) (q : flwor.Flwor) (v : Tree) : Type 0 where
+pub record IsFlwor (names : BoundNames) (q : flwor.Flwor) (v : Tree) : Type 0 where
   pub clauses_are : q.clauses ≡ clauses_in_tree names v
   pub conds_are : q.conds ≡ conds_in_tree names v
   pub group_is : q.group ≡ group_in_tree names v

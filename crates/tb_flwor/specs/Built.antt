@@ -26,7 +26,7 @@ use Rattle.tb_query.specs.declared.path.Start.{Start}
 use Rattle.tb_query.specs.declared.path.Step.{Step}
 use Rattle.tb_query.specs.declared.query.Query.{Query}
 use Rattle.tb_flwor.specs.Value as value
-use Rattle.tb_flwor.specs.Value.{Names}
+use Rattle.tb_flwor.specs.Value.{BoundNames}
 use Rattle.tb_flwor.specs.Results.{attrs_of, content_of, braced_of, cons_behind, part_from, parts_in, back_in}
 use Rattle.tb_flwor.specs.Asked.{AskFor}
 
@@ -51,28 +51,28 @@ abbrev pub AreMore : List Step → Tree → Type 0
 AreMore are v = value.more_steps v ≡ are
 
 -- whatever steps behind it
-abbrev pub IsStart : Names → Start → Tree → Type 0
+abbrev pub IsStart : BoundNames → Start → Tree → Type 0
 IsStart names is v =
     (w : Tree) → value.longpath_of names (pair v w) ≡ record { start = is; steps = value.steps_of w }
 
-abbrev pub IsPath : Names → Path → Tree → Type 0
+abbrev pub IsPath : BoundNames → Path → Tree → Type 0
 IsPath names is v = value.path_of names v ≡ is
 
-abbrev pub IsLongpath : Names → Path → Tree → Type 0
+abbrev pub IsLongpath : BoundNames → Path → Tree → Type 0
 IsLongpath names is v = value.longpath_of names v ≡ is
 
 -- Operands.
 
-abbrev pub IsOperand : Names → Operand → Tree → Type 0
+abbrev pub IsOperand : BoundNames → Operand → Tree → Type 0
 IsOperand names is v = value.operand_of names v ≡ is
 
-abbrev pub IsBraced : Names → Content → Tree → Type 0
+abbrev pub IsBraced : BoundNames → Content → Tree → Type 0
 IsBraced names is v = braced_of names v ≡ is
 
-abbrev pub IsContent : Names → Content → Tree → Type 0
+abbrev pub IsContent : BoundNames → Content → Tree → Type 0
 IsContent names is v = content_of names v ≡ is
 
-abbrev pub IsRight : Names → Right → Tree → Type 0
+abbrev pub IsRight : BoundNames → Right → Tree → Type 0
 IsRight names is v = value.right_of names v ≡ is
 
 -- Clauses, conditions, groups, keys.
@@ -86,25 +86,25 @@ abbrev pub IsAllowed : Bool → Tree → Type 0
 IsAllowed is v = is_there v ≡ is
 
 -- bind { "," bind }, whatever the FOR before it
-abbrev pub AreBinds : Names → List Clause → Tree → Type 0
+abbrev pub AreBinds : BoundNames → List Clause → Tree → Type 0
 AreBinds names are v =
     (w : Tree) → GivesAll (λ x. value.clause_from names (first (pair w x))) are v
 
 -- { clause }, behind these
-abbrev pub AreMoreClauses : Names → List Clause → List Clause → Tree → Type 0
+abbrev pub AreMoreClauses : BoundNames → List Clause → List Clause → Tree → Type 0
 AreMoreClauses names before are v = before ++ value.more_clauses names v ≡ are
 
 -- clause { clause }, which are two parts of a query
-pub record BuildsClauses (names : Names) (are : List Clause) (s left : List Tok) : Type 0 where
+pub record BuildsClauses (names : BoundNames) (are : List Clause) (s left : List Tok) : Type 0 where
   pub mid : List Tok
   pub first_are : List Clause
   pub one : Builds clause (GivesAll (value.clause_from names) first_are) s mid
   pub others : Builds (many clause) (AreMoreClauses names first_are are) mid left
 
-abbrev pub AreConds : Names → List Comparison → Tree → Type 0
+abbrev pub AreConds : BoundNames → List Comparison → Tree → Type 0
 AreConds names are v = value.conds_of names v ≡ are
 
-abbrev pub IsGroup : Names → Option GroupBy → Tree → Type 0
+abbrev pub IsGroup : BoundNames → Option GroupBy → Tree → Type 0
 IsGroup names is v = value.group_of names v ≡ is
 
 -- ASCENDING | DESCENDING
@@ -115,7 +115,7 @@ direction = one (map (terminal_of Word) (codes "ASCENDING" ∷ codes "DESCENDING
 abbrev pub IsTurned : Bool → Tree → Type 0
 IsTurned is v = value.is_keyword (codes "DESCENDING") v ≡ is
 
-abbrev pub AreKeys : Names → List Key → Tree → Type 0
+abbrev pub AreKeys : BoundNames → List Key → Tree → Type 0
 AreKeys names are v = value.keys_of names v ≡ are
 
 -- Constructors.
@@ -127,28 +127,28 @@ inside =
     (row (sign (codes ">")) (many results.piece ∷ sign (codes "</") ∷ name ∷ sign (codes ">") ∷ []))
 
 -- whatever the name and the attributes before it
-abbrev pub AreInside : Names → List part.Part → Tree → Type 0
+abbrev pub AreInside : BoundNames → List part.Part → Tree → Type 0
 AreInside names are v =
     (n a : Tree)
     → element (bytes_in n) (attrs_of names a) (plain_parts (map part_of are))
     ≡ cons_behind names (pair n (pair a v))
 
-abbrev pub IsCons : Names → cons.Cons → Tree → Type 0
+abbrev pub IsCons : BoundNames → cons.Cons → Tree → Type 0
 IsCons names is v = cons_of is ≡ cons_behind names v
 
 -- whatever parts behind it
-abbrev pub IsPart : Names → part.Part → Tree → Type 0
+abbrev pub IsPart : BoundNames → part.Part → Tree → Type 0
 IsPart names is v = (behind : PlainParts) → part_from names v behind ≡ before (part_of is) behind
 
 -- { piece }
-abbrev pub AreParts : Names → List part.Part → Tree → Type 0
+abbrev pub AreParts : BoundNames → List part.Part → Tree → Type 0
 AreParts names are v = parts_in names v ≡ plain_parts (map part_of are)
 
 -- { attr }
-abbrev pub AreAttrs : Names → List AttrPart → Tree → Type 0
+abbrev pub AreAttrs : BoundNames → List AttrPart → Tree → Type 0
 AreAttrs names are v = attrs_of names v ≡ are
 
-abbrev pub IsBack : Names → Back → Tree → Type 0
+abbrev pub IsBack : BoundNames → Back → Tree → Type 0
 IsBack names is v = back_of is ≡ back_in names v
 
 -- the tokens ask for the query, where they have no fault

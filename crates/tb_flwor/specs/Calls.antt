@@ -9,7 +9,7 @@ use Rattle.tb_token.specs.reading.Calls as reading
 use Rattle.tb_query.specs.declared.query.Query.{Query}
 use Rattle.tb_flwor.specs.Asked.{AskFor}
 use Rattle.tb_flwor.specs.Faults.{AreQuery, AreFaultless, AreTokens, fault_at_token, first_fault, Holds, HasFault}
-use Rattle.tb_flwor.specs.Value.{Names}
+use Rattle.tb_flwor.specs.Value.{BoundNames}
 use Rattle.tb_flwor.specs.Variables.{bound, clauses_in}
 use Rattle.tb_flwor.specs.declared.fault.QueryFault.{QueryFault}
 use Rattle.tb_flwor.specs.declared.fault.QueryFault.TheVariants.{TooLong, BadByte, OpenString, Syntax, NoMemory}
@@ -21,7 +21,7 @@ FirstWrong s wrong = reading.FirstWrong rules query s wrong
 
 -- The names that are bound, where the tokens are a query without fault, or their first fault; memory
 -- may be wanting at any time.
-abbrev pub Checks : List Tok → Result Names QueryFault → Type 0
+abbrev pub Checks : List Tok → Result BoundNames QueryFault → Type 0
 Checks s (Ok names) = AreFaultless s × (names ≡ bound (clauses_in s))
 Checks s (Err TooLong) = ⊥
 Checks s (Err (BadByte at)) = ⊥
@@ -31,7 +31,7 @@ Checks s (Err NoMemory) = ⊤
 Checks s (Err f) = AreQuery s × (first_fault s ≡ Some f)
 
 -- the same up to the limits, behind which the other faults come
-abbrev pub ChecksLimits : List Tok → Result Names QueryFault → Type 0
+abbrev pub ChecksLimits : List Tok → Result BoundNames QueryFault → Type 0
 ChecksLimits s (Ok names) =
     AreQuery s × (first_fault s ≡ fault_at_token s) × (names ≡ bound (clauses_in s))
 ChecksLimits s (Err f) = Checks s (Err f)

@@ -22,11 +22,11 @@ use Rattle.tb_query.specs.declared.clause.GroupBy.{GroupBy}
 use Rattle.tb_query.specs.declared.clause.Key.{Key}
 
 -- the names that are bound, in order
-abbrev pub Names : Type 0
-Names = List (List ℕ)
+abbrev pub BoundNames : Type 0
+BoundNames = List (List ℕ)
 
 -- the number of a variable: how many bindings stand before the first of its name
-abbrev pub var_in : Names → Tree → ℕ
+abbrev pub var_in : BoundNames → Tree → ℕ
 var_in names v = place_in (bytes_in v) names
 
 -- DOCUMENT "(" STRING ")"
@@ -52,17 +52,17 @@ steps_of _ = []
 abbrev pub from_document : Tree → List Step → Path
 from_document d steps = record { start = start.Document (document_in d); steps = steps }
 
-abbrev pub from_variable : Names → Tree → List Step → Path
+abbrev pub from_variable : BoundNames → Tree → List Step → Path
 from_variable names v steps = record { start = start.Var (var_in names v); steps = steps }
 
 -- doc step { step } | VARIABLE { step }
-abbrev pub path_of : Names → Tree → Path
+abbrev pub path_of : BoundNames → Tree → Path
 path_of names (first (pair d steps)) = from_document d (steps_of steps)
 path_of names (second (pair v steps)) = from_variable names v (more_steps steps)
 path_of names _ = from_document nothing []
 
 -- ( doc | VARIABLE ) step { step }
-abbrev pub longpath_of : Names → Tree → Path
+abbrev pub longpath_of : BoundNames → Tree → Path
 longpath_of names (pair (first d) steps) = from_document d (steps_of steps)
 longpath_of names (pair (second v) steps) = from_variable names v (steps_of steps)
 longpath_of names _ = from_document nothing []
@@ -78,25 +78,25 @@ agg_of v =
     else (if is_keyword (codes "MAX") v then agg.Max else agg.Count))
 
 -- path | agg "(" path ")"
-abbrev pub operand_of : Names → Tree → Operand
+abbrev pub operand_of : BoundNames → Tree → Operand
 operand_of names (first p) = operand.Nodes (path_of names p)
 operand_of names (second (pair a (pair opening (pair p closing)))) =
     operand.Agg (agg_of a) (path_of names p)
 operand_of names _ = operand.Nodes (from_document nothing [])
 
 -- VARIABLE [ ALLOWING EMPTY ] IN longpath
-abbrev pub bind_from : Names → Tree → List Clause → List Clause
+abbrev pub bind_from : BoundNames → Tree → List Clause → List Clause
 bind_from names (pair v (pair e (pair keyword p))) behind =
     For (var_in names v) (is_there e) (longpath_of names p) ∷ behind
 bind_from names _ behind = behind
 
 -- { "," bind }
-abbrev pub more_binds : Names → Tree → List Clause
+abbrev pub more_binds : BoundNames → Tree → List Clause
 more_binds names (pair (pair comma b) rest) = bind_from names b (more_binds names rest)
 more_binds names _ = []
 
 -- FOR bind { "," bind } | LET VARIABLE ":=" longpath
-abbrev pub clause_from : Names → Tree → List Clause → List Clause
+abbrev pub clause_from : BoundNames → Tree → List Clause → List Clause
 clause_from names (first (pair keyword (pair b rest))) behind =
     bind_from names b (more_binds names rest) ++ behind
 clause_from names (second (pair keyword (pair v (pair sign p)))) behind =
@@ -104,50 +104,50 @@ clause_from names (second (pair keyword (pair v (pair sign p)))) behind =
 clause_from names _ behind = behind
 
 -- { clause }
-abbrev pub more_clauses : Names → Tree → List Clause
+abbrev pub more_clauses : BoundNames → Tree → List Clause
 more_clauses names (pair c rest) = clause_from names c (more_clauses names rest)
 more_clauses names _ = []
 
 -- operand | literal
-abbrev pub right_of : Names → Tree → Right
+abbrev pub right_of : BoundNames → Tree → Right
 right_of names (first o) = right.Operand (operand_of names o)
 right_of names (second l) = right.Literal (literal_of l)
 right_of names _ = right.Operand (operand.Nodes (from_document nothing []))
 
 -- operand cmp ( operand | literal )
-abbrev pub cond_from : Names → Tree → List Comparison → List Comparison
+abbrev pub cond_from : BoundNames → Tree → List Comparison → List Comparison
 cond_from names (pair l (pair c r)) behind =
     record { left = operand_of names l; op = op_of c; right = right_of names r } ∷ behind
 cond_from names _ behind = behind
 
 -- { AND cond }
-abbrev pub more_conds : Names → Tree → List Comparison
+abbrev pub more_conds : BoundNames → Tree → List Comparison
 more_conds names (pair (pair keyword c) rest) = cond_from names c (more_conds names rest)
 more_conds names _ = []
 
 -- [ WHERE cond { AND cond } ]
-abbrev pub conds_of : Names → Tree → List Comparison
+abbrev pub conds_of : BoundNames → Tree → List Comparison
 conds_of names (pair keyword (pair c rest)) = cond_from names c (more_conds names rest)
 conds_of names _ = []
 
 -- [ GROUP BY VARIABLE ":=" path ]
-abbrev pub group_of : Names → Tree → Option GroupBy
+abbrev pub group_of : BoundNames → Tree → Option GroupBy
 group_of names (pair keyword (pair by (pair v (pair sign p)))) =
     Some (record { var = var_in names v; path = path_of names p })
 group_of names _ = None
 
 -- operand [ ASCENDING | DESCENDING ]
-abbrev pub key_from : Names → Tree → List Key → List Key
+abbrev pub key_from : BoundNames → Tree → List Key → List Key
 key_from names (pair o d) behind =
     record { operand = operand_of names o; descending = is_keyword (codes "DESCENDING") d } ∷ behind
 key_from names _ behind = behind
 
 -- { "," key }
-abbrev pub more_keys : Names → Tree → List Key
+abbrev pub more_keys : BoundNames → Tree → List Key
 more_keys names (pair (pair comma k) rest) = key_from names k (more_keys names rest)
 more_keys names _ = []
 
 -- [ ORDER BY key { "," key } ]
-abbrev pub keys_of : Names → Tree → List Key
+abbrev pub keys_of : BoundNames → Tree → List Key
 keys_of names (pair keyword (pair by (pair k rest))) = key_from names k (more_keys names rest)
 keys_of names _ = []

@@ -9,7 +9,7 @@ ghost use Rattle.tb_token.specs.grammar.Results as part;
 ghost use Rattle.tb_flwor.specs.Built.{Gives, IsBack, IsCons, AreInside, AreParts, IsPart, AreAttrs, inside};
 ghost use Rattle.tb_flwor.specs.Results.{attr_from};
 
-use crate::names::Names;
+use crate::names::BoundNames;
 use crate::operand::content;
 use crate::path::path;
 use std::alloc::{AllocError, Global};
@@ -22,7 +22,7 @@ use tb_tree::{Bytes, Items};
 /// path | "<" and the rest of the constructor
 pub fn back<'t, 'a>(
     alloc: Global,
-    names: &Names,
+    names: &BoundNames,
     tokens: &'t [Lexeme<'a>],
 ) -> Result<(Back, &'t [Lexeme<'a>]), AllocError>
     ensures { IfOk result (λ r. Builds part.back (IsBack names.now r.0) tokens.now r.1.now) }
@@ -39,7 +39,7 @@ pub fn back<'t, 'a>(
 #[cycle(building)]
 fn cons<'t, 'a>(
     alloc: Global,
-    names: &Names,
+    names: &BoundNames,
     tokens: &'t [Lexeme<'a>],
 ) -> Result<(Cons, &'t [Lexeme<'a>]), AllocError>
     ensures built { IfOk result (λ r. Builds part.cons_rest (IsCons names.now r.0) tokens.now r.1.now) }
@@ -55,7 +55,7 @@ fn cons<'t, 'a>(
 #[cycle(building)]
 fn inside<'t, 'a>(
     alloc: Global,
-    names: &Names,
+    names: &BoundNames,
     tokens: &'t [Lexeme<'a>],
 ) -> Result<(Items<Part>, &'t [Lexeme<'a>]), AllocError>
     ensures built { IfOk result (λ r. Builds inside (AreInside names.now r.0) tokens.now r.1.now) }
@@ -72,7 +72,7 @@ fn inside<'t, 'a>(
 #[cycle(building)]
 fn parts<'t, 'a>(
     alloc: Global,
-    names: &Names,
+    names: &BoundNames,
     tokens: &'t [Lexeme<'a>],
 ) -> Result<(Items<Part>, &'t [Lexeme<'a>]), AllocError>
     ensures built { IfOk result (λ r.
@@ -97,7 +97,7 @@ fn parts<'t, 'a>(
 #[cycle(building)]
 fn part<'t, 'a>(
     alloc: Global,
-    names: &Names,
+    names: &BoundNames,
     tokens: &'t [Lexeme<'a>],
 ) -> Result<(Part, &'t [Lexeme<'a>]), AllocError>
     ensures built { IfOk result (λ r. Builds part.piece (IsPart names.now r.0) tokens.now r.1.now) }
@@ -114,7 +114,7 @@ fn part<'t, 'a>(
 /// { attr }
 fn attrs<'t, 'a>(
     alloc: Global,
-    names: &Names,
+    names: &BoundNames,
     tokens: &'t [Lexeme<'a>],
 ) -> Result<(Items<AttrPart>, &'t [Lexeme<'a>]), AllocError>
     ensures built { IfOk result (λ r.
@@ -138,7 +138,7 @@ fn attrs<'t, 'a>(
 /// NAME "=" ( STRING | "{" operand "}" )
 fn attr<'t, 'a>(
     alloc: Global,
-    names: &Names,
+    names: &BoundNames,
     tokens: &'t [Lexeme<'a>],
 ) -> Result<(AttrPart, &'t [Lexeme<'a>]), AllocError>
     ensures built { IfOk result (λ r.

@@ -8,7 +8,7 @@ ghost use Rattle.tb_flwor.specs.Asked.{IsFlwor};
 use crate::back::back;
 use crate::clause::clauses;
 use crate::conds::conds;
-use crate::names::Names;
+use crate::names::BoundNames;
 use crate::order::{group, keys};
 use std::alloc::{AllocError, Global};
 use tb_pattern::prefix::behind;
@@ -18,7 +18,7 @@ use tb_token::Lexeme;
 /// clause { clause } [ where ] [ group ] [ order ] RETURN back
 pub fn flwor<'t, 'a>(
     alloc: Global,
-    names: &Names,
+    names: &BoundNames,
     tokens: &'t [Lexeme<'a>],
 ) -> Result<(Flwor, &'t [Lexeme<'a>]), AllocError>
     ensures { IfOk result (λ r. Builds part.flwor (IsFlwor names.now r.0) tokens.now r.1.now) }

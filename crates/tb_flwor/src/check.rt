@@ -6,7 +6,7 @@ ghost use Rattle.tb_flwor.specs.Calls.{Checks, ChecksLimits};
 ghost use Rattle.tb_flwor.specs.Faults.{is_too_nested, fault_at_token, fault_in_results};
 
 use crate::constructors::{first_repeated_attribute, first_wrong_tag, is_nested, results};
-use crate::names::Names;
+use crate::names::BoundNames;
 use crate::variables::{bound, first_repeated, first_unknown, is_match};
 use crate::{QueryFault, first_wrong_query};
 use std::alloc::{AllocError, Global};
@@ -14,7 +14,7 @@ use tb_pattern::limits::{self, first_past, tests_in};
 use tb_token::Lexeme;
 
 /// The names that are bound, where the tokens are a query without fault, or else the first fault.
-pub fn check<'a>(alloc: Global, tokens: &[Lexeme<'a>]) -> Result<Names<'a>, QueryFault>
+pub fn check<'a>(alloc: Global, tokens: &[Lexeme<'a>]) -> Result<BoundNames<'a>, QueryFault>
     requires { length tokens.now ≤ 65536 }
     ensures { Checks tokens.now result }
 {
@@ -26,7 +26,7 @@ pub fn check<'a>(alloc: Global, tokens: &[Lexeme<'a>]) -> Result<Names<'a>, Quer
 }
 
 /// The names that are bound, where the tokens are a query within the limits, or else the first fault.
-fn check_limits<'a>(alloc: Global, tokens: &[Lexeme<'a>]) -> Result<Names<'a>, QueryFault>
+fn check_limits<'a>(alloc: Global, tokens: &[Lexeme<'a>]) -> Result<BoundNames<'a>, QueryFault>
     requires { length tokens.now ≤ 65536 }
     ensures { ChecksLimits tokens.now result }
 {
@@ -40,7 +40,7 @@ fn check_limits<'a>(alloc: Global, tokens: &[Lexeme<'a>]) -> Result<Names<'a>, Q
         return Err(QueryFault::TooManyNodes);
     }
     let names = bound(alloc, clauses_in(tokens))?;
-    let Some(names) = Names::of(names) else {
+    let Some(names) = BoundNames::of(names) else {
         return Err(QueryFault::TooManyVariables);
     };
     Ok(names)

@@ -8,7 +8,7 @@ ghost use Rattle.tb_token.specs.grammar.Terminals.{comma, list_of};
 ghost use Rattle.tb_flwor.specs.Built.{Gives, GivesAll, AreBinds, BuildsClauses, IsAllowed, allowing};
 ghost use Rattle.tb_flwor.specs.Value.{bind_from, clause_from};
 
-use crate::names::Names;
+use crate::names::BoundNames;
 use crate::path::longpath;
 use std::alloc::{AllocError, Global};
 use tb_pattern::prefix::{begins, behind, bytes};
@@ -20,7 +20,7 @@ use tb_tree::Items;
 /// clause { clause }
 pub fn clauses<'t, 'a>(
     alloc: Global,
-    names: &Names,
+    names: &BoundNames,
     tokens: &'t [Lexeme<'a>],
 ) -> Result<(Items<Clause>, &'t [Lexeme<'a>]), AllocError>
     ensures { IfOk result (λ r. BuildsClauses names.now r.0 tokens.now r.1.now) }
@@ -37,7 +37,7 @@ pub fn clauses<'t, 'a>(
 /// FOR bind { "," bind } | LET VARIABLE ":=" longpath
 fn clause<'t, 'a>(
     alloc: Global,
-    names: &Names,
+    names: &BoundNames,
     tokens: &'t [Lexeme<'a>],
 ) -> Result<(Vec<Clause>, &'t [Lexeme<'a>]), AllocError>
     ensures built { IfOk result (λ r.
@@ -59,7 +59,7 @@ fn clause<'t, 'a>(
 /// bind { "," bind }
 fn binds<'t, 'a>(
     alloc: Global,
-    names: &Names,
+    names: &BoundNames,
     tokens: &'t [Lexeme<'a>],
 ) -> Result<(Vec<Clause>, &'t [Lexeme<'a>]), AllocError>
     ensures built { IfOk result (λ r.
@@ -80,7 +80,7 @@ fn binds<'t, 'a>(
 /// VARIABLE [ ALLOWING EMPTY ] IN longpath
 fn bind<'t, 'a>(
     alloc: Global,
-    names: &Names,
+    names: &BoundNames,
     tokens: &'t [Lexeme<'a>],
 ) -> Result<(Clause, &'t [Lexeme<'a>]), AllocError>
     ensures built { IfOk result (λ r.

@@ -9,7 +9,7 @@ ghost use Rattle.tb_token.specs.grammar.Queries as part;
 ghost use Rattle.tb_flwor.specs.Built.{Gives, AreConds, IsRight};
 ghost use Rattle.tb_flwor.specs.Value.{cond_from};
 
-use crate::names::Names;
+use crate::names::BoundNames;
 use crate::operand::operand;
 use std::alloc::{AllocError, Global};
 use tb_pattern::conds::literal;
@@ -22,7 +22,7 @@ use tb_tree::Items;
 /// [ WHERE cond { AND cond } ]
 pub fn conds<'t, 'a>(
     alloc: Global,
-    names: &Names,
+    names: &BoundNames,
     tokens: &'t [Lexeme<'a>],
 ) -> Result<(Items<Comparison>, &'t [Lexeme<'a>]), AllocError>
     ensures { IfOk result (λ r.
@@ -45,7 +45,7 @@ pub fn conds<'t, 'a>(
 /// operand cmp ( operand | literal )
 fn cond<'t, 'a>(
     alloc: Global,
-    names: &Names,
+    names: &BoundNames,
     tokens: &'t [Lexeme<'a>],
 ) -> Result<(Comparison, &'t [Lexeme<'a>]), AllocError>
     ensures built { IfOk result (λ r.
@@ -65,7 +65,7 @@ fn cond<'t, 'a>(
 /// operand | literal
 fn right<'t, 'a>(
     alloc: Global,
-    names: &Names,
+    names: &BoundNames,
     tokens: &'t [Lexeme<'a>],
 ) -> Result<(Right, &'t [Lexeme<'a>]), AllocError>
     ensures built { IfOk result (λ r.

@@ -7,11 +7,11 @@ use std::marker::Model;
 
 /// The names that variables are bound to, in order, each with its `$`: 32 at most.
 #[derive(Debug, Drop)]
-pub struct Names<'a> {
+pub struct BoundNames<'a> {
     names: Vec<&'a [u8]>,
 }
 
-impl<'a> Model for Names<'a> {
+impl<'a> Model for BoundNames<'a> {
     ghost use Rattle.std.specs.Prelude.{◌≤◌, List, ℕ, length, map};
 
     ghost Value = { List (List ℕ) };
@@ -21,16 +21,16 @@ impl<'a> Model for Names<'a> {
     ghost invariant = { λ names. length names.names.items ≤ 32 };
 }
 
-impl<'a> Names<'a> {
+impl<'a> BoundNames<'a> {
     /// The names, or `None` where there are more than 32.
-    pub fn of(names: Vec<&'a [u8]>) -> Option<Names<'a>>
+    pub fn of(names: Vec<&'a [u8]>) -> Option<BoundNames<'a>>
         ensures few { IsSome result ↔ (length names.entry.items ≤ 32) }
         ensures names { IfSome result (λ is. is ≡ map (λ name. name.now) names.entry.items) }
     {
         if names.len() > 32 {
             return None;
         }
-        Some(Names { names })
+        Some(BoundNames { names })
     }
 
     /// The number of the variable, from 0: how many names stand before its own.

@@ -9,7 +9,7 @@ ghost use Rattle.tb_token.specs.grammar.Terminals.{string};
 ghost use Rattle.tb_flwor.specs.Built.{IsOperand, IsBraced, IsContent};
 ghost use Rattle.tb_flwor.specs.Value.{agg_of};
 
-use crate::names::Names;
+use crate::names::BoundNames;
 use crate::path::path;
 use std::alloc::{AllocError, Global};
 use tb_number::AggKind;
@@ -21,7 +21,7 @@ use tb_token::terminals::{DOCUMENT, MAX, MIN, QUOTED, SUM, VARIABLE};
 /// path | agg "(" path ")"
 pub fn operand<'t, 'a>(
     alloc: Global,
-    names: &Names,
+    names: &BoundNames,
     tokens: &'t [Lexeme<'a>],
 ) -> Result<(Operand, &'t [Lexeme<'a>]), AllocError>
     ensures built { IfOk result (λ r.
@@ -55,7 +55,7 @@ fn agg(tokens: &[Lexeme]) -> AggKind
 /// STRING | "{" operand "}"
 pub fn content<'t, 'a>(
     alloc: Global,
-    names: &Names,
+    names: &BoundNames,
     tokens: &'t [Lexeme<'a>],
 ) -> Result<(Content, &'t [Lexeme<'a>]), AllocError>
     ensures built { IfOk result (λ r.

@@ -7,7 +7,7 @@ ghost use Rattle.tb_token.specs.grammar.Queries as part;
 ghost use Rattle.tb_flwor.specs.Built.{Gives, IsGroup, AreKeys, IsTurned, direction};
 ghost use Rattle.tb_flwor.specs.Value.{key_from};
 
-use crate::names::Names;
+use crate::names::BoundNames;
 use crate::operand::operand;
 use crate::path::path;
 use std::alloc::{AllocError, Global};
@@ -20,7 +20,7 @@ use tb_tree::Items;
 /// [ GROUP BY VARIABLE ":=" path ]
 pub fn group<'t, 'a>(
     alloc: Global,
-    names: &Names,
+    names: &BoundNames,
     tokens: &'t [Lexeme<'a>],
 ) -> Result<(Option<GroupBy>, &'t [Lexeme<'a>]), AllocError>
     ensures { IfOk result (λ r.
@@ -38,7 +38,7 @@ pub fn group<'t, 'a>(
 /// [ ORDER BY key { "," key } ]
 pub fn keys<'t, 'a>(
     alloc: Global,
-    names: &Names,
+    names: &BoundNames,
     tokens: &'t [Lexeme<'a>],
 ) -> Result<(Items<Key>, &'t [Lexeme<'a>]), AllocError>
     ensures { IfOk result (λ r.
@@ -61,7 +61,7 @@ pub fn keys<'t, 'a>(
 /// operand [ ASCENDING | DESCENDING ]
 fn key<'t, 'a>(
     alloc: Global,
-    names: &Names,
+    names: &BoundNames,
     tokens: &'t [Lexeme<'a>],
 ) -> Result<(Key, &'t [Lexeme<'a>]), AllocError>
     ensures built { IfOk result (λ r.

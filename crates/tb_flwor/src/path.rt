@@ -9,7 +9,7 @@ ghost use Rattle.tb_token.specs.grammar.Terminals.{variable};
 ghost use Rattle.tb_flwor.specs.Built.{Gives, IsDocument, AreSteps, AreMore, IsStart, IsPath, IsLongpath};
 ghost use Rattle.tb_flwor.specs.Value.{step_from};
 
-use crate::names::Names;
+use crate::names::BoundNames;
 use std::alloc::{AllocError, Global};
 use tb_pattern::node_test::test;
 use tb_pattern::prefix::{axis, begins, behind, bytes, quoted};
@@ -21,7 +21,7 @@ use tb_tree::{Bytes, Items};
 /// doc step { step } | VARIABLE { step }
 pub fn path<'t, 'a>(
     alloc: Global,
-    names: &Names,
+    names: &BoundNames,
     tokens: &'t [Lexeme<'a>],
 ) -> Result<(Path, &'t [Lexeme<'a>]), AllocError>
     ensures built { IfOk result (λ r. Builds part.path (IsPath names.now r.0) tokens.now r.1.now) }
@@ -41,7 +41,7 @@ pub fn path<'t, 'a>(
 /// ( doc | VARIABLE ) step { step }
 pub fn longpath<'t, 'a>(
     alloc: Global,
-    names: &Names,
+    names: &BoundNames,
     tokens: &'t [Lexeme<'a>],
 ) -> Result<(Path, &'t [Lexeme<'a>]), AllocError>
     ensures built { IfOk result (λ r.
@@ -56,7 +56,7 @@ pub fn longpath<'t, 'a>(
 /// doc | VARIABLE
 fn start<'t, 'a>(
     alloc: Global,
-    names: &Names,
+    names: &BoundNames,
     tokens: &'t [Lexeme<'a>],
 ) -> Result<(Start, &'t [Lexeme<'a>]), AllocError>
     ensures built { IfOk result (λ r.

@@ -8,7 +8,7 @@ ghost use Rattle.tb_flwor.specs.Calls.{CutsQuery, Reads};
 use crate::QueryFault;
 use crate::build::flwor;
 use crate::check::check;
-use crate::names::Names;
+use crate::names::BoundNames;
 use crate::variables::is_match;
 use std::alloc::{AllocError, Global};
 use tb_pattern::build::pattern;
@@ -43,7 +43,7 @@ fn cut(alloc: Global, text: &[u8]) -> Result<Vec<Token>, QueryFault>
 }
 
 /// The query of tokens without fault, in which these names are bound.
-fn query(alloc: Global, names: &Names, tokens: &[Lexeme]) -> Result<Query, AllocError>
+fn query(alloc: Global, names: &BoundNames, tokens: &[Lexeme]) -> Result<Query, AllocError>
     requires { names.now ≡ bound (clauses_in tokens.now) }
     ensures { IfOk result (Asks tokens.now) }
 {
