@@ -2,7 +2,7 @@
 use Rattle.std.proofs.Common.{◌≡◌, ℕ, true, false, List, [], ◌∷◌, drop, refl, ap, ◌∙◌}
 use Rattle.std.specs.Prelude.{codes}
 use Rattle.tb_token.specs.grammar.Grammar.{Tok, Part, both, either}
-use Rattle.tb_token.specs.grammar.Sentences.{Tree, pair, first, second}
+use Rattle.tb_token.specs.grammar.Sentences.{pair, first, second}
 use Rattle.tb_token.specs.grammar.Terminals.{sign, name, text_test}
 use Rattle.tb_token.specs.grammar.Patterns.{test}
 use Rattle.tb_token.specs.tokens.TerminalNames as terminals

@@ -1,9 +1,9 @@
 -- What is a sentence by some rules is one by all that agree with them where they are called.
-use Rattle.std.proofs.Common.{◌≡◌, ℕ, Bool, true, ◌&&◌, List, [], ◌∷◌, ◌++◌, length, take, sym, ap}
+use Rattle.std.proofs.Common.{◌≡◌, ℕ, Bool, true, ◌&&◌, List, [], ◌∷◌, ◌++◌, take, sym}
 use Rattle.std.specs.Prelude.{IsTrue, ⊤}
 use Rattle.std.proofs.lemmas.Bool.{and_parts}
 use Rattle.tb_token.specs.grammar.Grammar.{Tok, Part, one, both, either, maybe, many, opened, Rules}
-use Rattle.tb_token.specs.grammar.Sentences.{Tree, Derives, at_end, by_one, by_both, by_first, by_second, left_out, put_in, no_more, one_more, by_rule, AreSentence, Begin, IsWrongAt}
+use Rattle.tb_token.specs.grammar.Sentences.{Tree, Derives, at_end, by_one, by_both, by_first, by_second, left_out, put_in, no_more, one_more, by_rule, AreSentence, IsWrongAt}
 
 -- the part calls such rules alone
 abbrev pub calls : (ℕ → Bool) → Part → Bool

@@ -1,6 +1,6 @@
 -- Lists of terminals.
 use Rattle.std.proofs.Common.{◌≡◌, ◌⊎◌, inl, inr, ℕ, Bool, true, false, not, ◌&&◌, ◌||◌, ◌==◌, List, [], ◌∷◌, ◌++◌, refl, sym, ◌∙◌, eqb-true}
-use Rattle.std.proofs.lemmas.Bool.{and_parts, and_from, or_left, or_right, or_parts, and_cases, not_from_false, or_cases, not-true}
+use Rattle.std.proofs.lemmas.Bool.{and_parts, and_from, or_left, or_right, not_from_false, not-true}
 use Rattle.std.proofs.lemmas.Bool.Decides.{Decides-eqb}
 use Rattle.tb_token.specs.grammar.Grammar.{has}
 use Rattle.tb_token.specs.grammar.LL1.{all_in, are_apart}

@@ -1,5 +1,5 @@
 -- The tokens of a cut that have the terminal of a number are digits.
-use Rattle.std.proofs.Common.{◌≡◌, ℕ, ◌+◌, ◌-◌, true, List, [], take, drop, Option, refl, sym, ap, ◌∙◌, arith, drop-drop}
+use Rattle.std.proofs.Common.{◌≡◌, ℕ, ◌+◌, ◌-◌, true, List, take, drop, Option, refl, sym, ap, ◌∙◌, arith, drop-drop}
 use Rattle.tb_token.specs.tokens.Kinds.{is_token, is_number}
 use Rattle.tb_token.specs.tokens.Cuts.{AreCut, at_end, behind_blank, behind_token, at_byte, at_quote, token, IsCut}
 use Rattle.tb_token.specs.tokens.Lexemes.{terminal_of, bytes_of, toks_from, toks_of, HaveDigits}

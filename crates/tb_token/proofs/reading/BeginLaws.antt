@@ -1,5 +1,5 @@
 -- What a part begins with, by whether it may be empty.
-use Rattle.std.proofs.Common.{◌≡◌, ℕ, Bool, true, false, not, ◌&&◌, ◌||◌, ap, sym, ◌∙◌, refl}
+use Rattle.std.proofs.Common.{◌≡◌, ℕ, Bool, true, false, not, ◌&&◌, ◌||◌, refl}
 use Rattle.tb_token.specs.grammar.Grammar.{Part, one, both, either, maybe, many, opened, has}
 use Rattle.tb_token.specs.grammar.Reading.{is_never_empty}
 use Rattle.tb_token.specs.reading.Machine.{begins_by}

@@ -1,5 +1,5 @@
 -- Of two parts in turn the second matters where the first may be empty.
-use Rattle.std.proofs.Common.{◌≡◌, ap, sym, ◌∙◌, false, not}
+use Rattle.std.proofs.Common.{ap, sym, ◌∙◌, not}
 use Rattle.tb_token.specs.reading.View.{part_of}
 use Rattle.tb_token.specs.reading.Machine.{begins_by}
 use Rattle.tb_token.proofs.reading.Views.{part_of-Both}
