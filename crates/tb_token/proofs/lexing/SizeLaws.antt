@@ -1,7 +1,10 @@
 -- How long the longest token of each class is.
-use Rattle.std.proofs.Common.{◌≡◌, ℕ, zero, suc, ◌+◌, ◌<◌, ◌≤◌, Bool, true, false, cond, not, ◌==◌, ◌&&◌, ◌||◌, List, [], ◌∷◌, length, take, refl, arith}
+use Rattle.std.proofs.Common.{◌≡◌, ℕ, zero, suc, ◌+◌, ◌<◌, ◌≤◌, Bool, true, false, cond, not, ◌==◌, ◌&&◌, ◌||◌, List, [], ◌∷◌, length, take, refl, ap, ◌∙◌, arith}
 use Rattle.std.specs.List.{list_all, prefix_len, position_or_len}
 use Rattle.std.proofs.lemmas.Bool.{and_parts, and_from}
+use Rattle.std.proofs.lemmas.List.{get_or-take}
+use Rattle.std.proofs.lemmas.List.Folds.{length-prefix_len}
+use Rattle.std.proofs.lemmas.List.Sums.{prefix_len_passes, list_all-from_AllPass}
 use Rattle.tb_token.specs.tokens.Bytes.{is_digit, starts_name}
 use Rattle.tb_token.specs.tokens.Names.{goes_on, begins_name, all_go_on, is_name}
 use Rattle.tb_token.specs.tokens.Kinds.{is_closed, is_none}
@@ -9,16 +12,13 @@ use Rattle.tb_token.specs.tokens.Prefixes.{rest_len}
 
 -- Bytes that all pass.
 
-all-step : (test : ℕ → Bool) (b : ℕ) (bs : List ℕ) (passes : Bool) → test b ≡ passes → list_all test (take (prefix_len test bs) bs) ≡ true
-    → list_all test (take (cond passes (1 + prefix_len test bs) 0) (b ∷ bs)) ≡ true
-all-step test b bs true e all =
-    let more : 1 + prefix_len test bs ≡ suc (prefix_len test bs) = omega arith in
-    rw more (and_from (test b) (list_all test (take (prefix_len test bs) bs)) e all)
-all-step test b bs false e all = refl
-
 pub all-prefix : (test : ℕ → Bool) (bytes : List ℕ) → list_all test (take (prefix_len test bytes) bytes) ≡ true
-all-prefix test [] = refl
-all-prefix test (b ∷ bs) = all-step test b bs (test b) refl (all-prefix test bs)
+all-prefix test bytes =
+    let n = prefix_len test bytes in
+    list_all-from_AllPass test (take n bytes)
+    (λ k d within.
+    let here : k < n = omega (arith, within, length-prefix_len test bytes) in
+    ap test (get_or-take n bytes k d here) ∙ prefix_len_passes test bytes k d here)
 
 pub all-most : (test : ℕ → Bool) (bytes : List ℕ) (n : ℕ) → n ≤ length bytes → list_all test (take n bytes) ≡ true → n ≤ prefix_len test bytes
 all-most test bytes zero within all = omega arith
