@@ -80,7 +80,8 @@ fn time_read(rt: &HostRuntime, lines: Vec<u8>) -> io::Result<Option<Tree>>
 
 /// Says what the texts are.
 fn tell_text(rt: &HostRuntime, tree: &Tree) -> io::Result<()> {
-    let text = value(rt.alloc(), tree.root())?;
+    let root = tree.root(rt.alloc())?;
+    let text = value(rt.alloc(), &root)?;
     println!(rt; "text {}", text.as_slice().len())?;
     println!(rt; "text-sum {}", sum(text.as_slice()))
 }

@@ -3,11 +3,12 @@
 use Rattle.std.proofs.Common.{◌≡◌, ℕ, IsTrue, List, [], ◌∷◌, ◌++◌, filter, Option, Some, None, refl, sym, ap, ◌∙◌, subst, arith, append_assoc}
 use Rattle.std.proofs.lemmas.Bool.{false≢true}
 use Rattle.tb_tree.specs.Plain.{Plain, elem, attr, text, Plains, no_kids, kid, one, plains, is_element}
-use Rattle.tb_esis.specs.Escapes.{unescaped}
+use Rattle.tb_tree.specs.Escapes.{unescaped}
 use Rattle.tb_esis.specs.Lines.{Line, opens, closes, characters, conforms, is_kept, document_lines}
 use Rattle.tb_esis.specs.Reading.{with_text, Kids, over, goes_on, child, Ends, ended, conforming, no_bytes, Spell, IsReadAs}
 use Rattle.tb_esis.specs.Faults.{at_start, fault_of}
-use Rattle.tb_esis.specs.Machine.{Frame, Made, nothing_made, text_of, made_behind, made_of}
+use Rattle.tb_tree.specs.Making.{Frame, Made, nothing_made, text_of}
+use Rattle.tb_esis.specs.Machine.{made_behind, made_of}
 use Rattle.tb_esis.proofs.KeptLaws.{clean-kept, made-kept, clean-none}
 use Rattle.tb_esis.proofs.SpelledRuns.{Runs, runs-trans, runs-refl, runs-line, with_waiting, attributes_run, within, with_kids, kids_run, plains-listed, same_name}
 

@@ -5,7 +5,8 @@ use Rattle.tb_tree.specs.Names.{is_name}
 use Rattle.tb_tree.specs.Sound.{is_empty_list}
 use Rattle.tb_esis.specs.Lines.{Line, opens, closes, attribute, characters, conforms, passed_over, is_implied, is_kept}
 use Rattle.tb_esis.specs.Faults.{Open, fault_at, after_line, first_fault, fault_or}
-use Rattle.tb_esis.specs.Machine.{Made, made_behind, made_of}
+use Rattle.tb_tree.specs.Making.{Made}
+use Rattle.tb_esis.specs.Machine.{made_behind, made_of}
 use Rattle.tb_esis.specs.declared.fault.EsisFault.{EsisFault}
 
 -- no fault

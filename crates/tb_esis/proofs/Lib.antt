@@ -5,12 +5,11 @@ pub mod CompleteLaws
 pub mod MeaningLaws
 pub mod SoundLaws
 pub mod ReadLaws
-pub mod EscapeLaws
 pub mod SpaceLaws
 pub mod NotedLaws
+pub mod WeightLaws
+pub mod ValueLaws
 pub mod ReadingLaws
-pub mod PrintLaws
-pub mod PrintedBytes
 pub mod PrintedLines
 pub mod PrintedLaws
 pub mod WorkedRows

@@ -7,11 +7,12 @@ use Rattle.std.specs.Str.{bytes_eq}
 use Rattle.tb_tree.specs.Plain.{Plain, elem, attr, Plains, kid, one, plains, kids_listed, is_element}
 use Rattle.tb_tree.specs.Names.{is_name}
 use Rattle.tb_tree.specs.Sound.{is_empty_list}
-use Rattle.tb_esis.specs.Escapes.{unescaped}
+use Rattle.tb_tree.specs.Escapes.{unescaped}
 use Rattle.tb_esis.specs.Lines.{Line, opens, closes, attribute, characters, is_implied}
 use Rattle.tb_esis.specs.Reading.{with_text, Attributes, next, Kids, goes_on, child, Ends, no_bytes}
 use Rattle.tb_esis.specs.Faults.{Open, fault_at, is_none_of, fault_of_data, fault_of_value}
-use Rattle.tb_esis.specs.Machine.{Frame, Made, names_of, attribute_name, made_behind, open_of, given_or_none}
+use Rattle.tb_tree.specs.Making.{Frame, Made, names_of, attribute_name}
+use Rattle.tb_esis.specs.Machine.{made_behind, open_of, given_or_none}
 
 -- the nodes, and behind them the others
 abbrev pub before_kids : List Plain → Plains → Plains

@@ -8,11 +8,6 @@ use Rattle.std.specs.BTreeSet.{insert_key}
 use Rattle.std.specs.declared.cmp.Ordering.{Ordering}
 use Rattle.std.specs.declared.cmp.Ordering.TheVariants.{Less, Equal, Greater}
 use Rattle.std.proofs.lemmas.Bool.{false≢true}
-use Rattle.std.proofs.lemmas.List.{map-append}
-use Rattle.tb_tree.specs.View.{plain_of}
-use Rattle.tb_tree.specs.declared.node.Node.{Node, Attr}
-use Rattle.tb_tree.proofs.Views.{plain_of-Attr}
-use Rattle.tb_esis.specs.Machine.{names_of, attribute_name}
 use Rattle.std.proofs.lemmas.Map.Text.{is_eq-slice_cmp}
 
 -- keys that are borrowed names
@@ -65,9 +60,3 @@ pub noted-more : (keys more : List Key) (names : List (List ℕ)) (key : Key) �
 noted-more keys more names key noted new is name =
     ap (list_any (λ k. bytes_eq name k.now)) is ∙ any-insert_key (λ k. bytes_eq name k.now) key keys (any-ordered key.now keys ∙ noted key.now ∙ new)
     ∙ ap (λ b. bytes_eq name key.now || b) (noted name) ∙ sym (any-end (bytes_eq name) names key.now)
-
--- one attribute more
-pub names-more : (nodes more : List Node) (name value : List ℕ) → more ≡ nodes ++ Attr name value ∷ [] → names_of (map plain_of more) ≡ names_of (map plain_of nodes) ++ name ∷ []
-names-more nodes more name value is =
-    ap (λ ns. names_of (map plain_of ns)) is ∙ ap names_of (map-append plain_of nodes (Attr name value ∷ []))
-    ∙ map-append attribute_name (map plain_of nodes) (plain_of (Attr name value) ∷ []) ∙ ap (λ n. names_of (map plain_of nodes) ++ attribute_name n ∷ []) (plain_of-Attr name value)

@@ -4,7 +4,8 @@ use Rattle.std.proofs.lemmas.List.{map-append}
 use Rattle.tb_tree.specs.Plain.{Plain, elem, attr, plains}
 use Rattle.tb_esis.specs.Lines.{Line, opens, closes, attribute, characters, conforms, passed_over, is_implied}
 use Rattle.tb_esis.specs.Faults.{after_line}
-use Rattle.tb_esis.specs.Machine.{Frame, Made, attribute_name, put, root_or, has_begun, text_of, made_behind, open_of}
+use Rattle.tb_tree.specs.Making.{Frame, Made, attribute_name, put, root_or, has_begun, text_of}
+use Rattle.tb_esis.specs.Machine.{made_behind, open_of}
 
 pub names-put : (nodes : List Plain) (fs : List Frame) → map (λ (f : Frame). f.name) (put nodes fs) ≡ map (λ (f : Frame). f.name) fs
 names-put nodes [] = refl

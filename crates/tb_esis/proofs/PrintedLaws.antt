@@ -14,7 +14,7 @@ use Rattle.tb_esis.specs.Reading.{with_text, Attributes, no_more, next, Kids, ov
 use Rattle.tb_esis.specs.Faults.{fault_of}
 use Rattle.tb_esis.proofs.CompleteLaws.{read-clean, read-unique}
 use Rattle.tb_esis.proofs.ReadLaws.{are_new, bytes_eq-swap}
-use Rattle.tb_esis.proofs.PrintedBytes.{unescaped-escaped}
+use Rattle.tb_tree.proofs.PrintedBytes.{unescaped-escaped}
 use Rattle.tb_esis.proofs.PrintedLines.{kept_lines, attributes_said, content_said, element_parts, kept_lines-content}
 
 -- the kids but for the attributes

@@ -9,7 +9,7 @@ use Rattle.tb_tree.specs.Names.{is_name_byte, is_name}
 use Rattle.tb_tree.specs.Sound.{attribute_names, are_different, attributes_first, texts_apart, is_sound, are_sound}
 use Rattle.tb_tree.specs.Printed.{escaped, start_line, end_line, attribute_line, data_line, attribute_lines, content_lines}
 use Rattle.tb_esis.specs.Lines.{Line, opens, closes, attribute, characters, before_space, behind_space, line_of, is_kept, document_lines}
-use Rattle.tb_esis.proofs.PrintedBytes.{is_inner, escaped-inner, name_bytes-inner, name_byte-space}
+use Rattle.tb_tree.proofs.PrintedBytes.{is_inner, escaped-inner, name_bytes-inner, name_byte-space}
 
 -- the lines of a document but for those that are passed over
 abbrev pub kept_lines : List ℕ → List Line

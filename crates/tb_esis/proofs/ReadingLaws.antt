@@ -1,5 +1,5 @@
 -- What the reader makes of all lines is the document that they are read as.
-use Rattle.std.proofs.Common.{◌≡◌, ◌≢◌, ℕ, ◌+◌, ◌≤◌, List, [], ◌∷◌, Option, Some, None, Ok, Err, Result, IsErrAnd, IsTrue, map, refl, sym, ap, ◌∙◌, subst, length, arith, length-drop}
+use Rattle.std.proofs.Common.{◌≡◌, ◌≢◌, ℕ, ◌+◌, ◌≤◌, List, [], ◌∷◌, Option, Some, None, Ok, Err, Result, IsErrAnd, IsTrue, map, refl, sym, ap, ◌∙◌, subst, length, arith, length-take, length-drop, Bool, true, false}
 use Rattle.tb_tree.specs.Plain.{Plain, one, is_element}
 use Rattle.tb_tree.specs.Sound.{IsSound}
 use Rattle.tb_tree.specs.Levels.{levels}
@@ -7,35 +7,37 @@ use Rattle.tb_tree.specs.Printed.{printed_node}
 use Rattle.tb_tree.specs.TextLines.{CutsLine}
 use Rattle.tb_tree.specs.View.{plain_of}
 use Rattle.tb_tree.specs.declared.node.Node.{Node}
-use Rattle.tb_esis.specs.Lines.{line_of, document_lines}
+use Rattle.tb_esis.specs.Lines.{Line, opens, closes, attribute, characters, conforms, passed_over, is_implied, line_of, document_lines}
 use Rattle.tb_esis.specs.Reading.{IsReadAs}
 use Rattle.tb_esis.specs.Faults.{fault_at, fault_or, first_fault, fault_of, after_line}
-use Rattle.tb_esis.specs.Machine.{Made, nothing_made, made_of, open_of}
-use Rattle.tb_esis.specs.Readers.{IsRead, Finishes}
+use Rattle.tb_tree.specs.Making.{Frame, Made, nothing_made, put, text_of, with_text_ended, with_frames_ended}
+use Rattle.tb_tree.specs.Drafts.{IsDone}
+use Rattle.tb_esis.specs.Machine.{made_behind, made_of, open_of}
 use Rattle.tb_esis.specs.Calls.{UnlessMemory, Reads}
 use Rattle.tb_esis.specs.declared.fault.EsisFault.{EsisFault}
 use Rattle.tb_esis.specs.declared.fault.EsisFault.TheVariants.{BadEscape, BadName, BadAttribute, NoElement, WrongEnd, NotEnded, SecondRoot, TextOutside, TooDeep, NoMemory}
 use Rattle.tb_esis.proofs.OpenLaws.{open-behind}
 use Rattle.tb_esis.proofs.CompleteLaws.{read-clean, read-unique}
 use Rattle.tb_esis.proofs.PrintedLaws.{printed-read, printed-clean}
-use Rattle.tb_esis.proofs.SoundLaws.{clean-read}
+use Rattle.tb_esis.proofs.SoundLaws.{clean-read, no_start_fault}
+use Rattle.tb_esis.proofs.ReadLaws.{read-sound, read-levels}
+use Rattle.std.proofs.lemmas.Bool.{eqb-false}
+use Rattle.std.proofs.lemmas.List.{length-map}
 
 -- The first line, and those behind it.
 pub lines-cut : (bytes line rest : List ℕ) → CutsLine bytes line rest → document_lines bytes ≡ line_of line ∷ document_lines rest
 lines-cut bytes line rest cut = ap (map line_of) cut.lines
 
-pub faults-cut : (bytes line rest : List ℕ) (number : ℕ) (before after : Made) (whole : Option EsisFault) → CutsLine bytes line rest → IsRead (line_of line) before after
-    → first_fault number (open_of before) (document_lines bytes) ≡ whole → first_fault (number + 1) (open_of after) (document_lines rest) ≡ whole
-faults-cut bytes line rest number before after whole cut read e =
-    ap (λ (m : Made). first_fault (number + 1) (open_of m) (document_lines rest)) read.made
-    ∙ ap (λ o. first_fault (number + 1) o (document_lines rest)) (sym (open-behind before (line_of line)))
-    ∙ ap (λ f. fault_or f number (first_fault (number + 1) (after_line (open_of before) (line_of line)) (document_lines rest))) (sym read.no_fault)
+pub faults-cut : (bytes line rest : List ℕ) (number : ℕ) (before : Made) (whole : Option EsisFault) → CutsLine bytes line rest → fault_at (open_of before) (line_of line) ≡ None
+    → first_fault number (open_of before) (document_lines bytes) ≡ whole → first_fault (number + 1) (open_of (made_behind before (line_of line))) (document_lines rest) ≡ whole
+faults-cut bytes line rest number before whole cut none e =
+    ap (λ o. first_fault (number + 1) o (document_lines rest)) (sym (open-behind before (line_of line)))
+    ∙ ap (λ f. fault_or f number (first_fault (number + 1) (after_line (open_of before) (line_of line)) (document_lines rest))) (sym none)
     ∙ ap (first_fault number (open_of before)) (sym (lines-cut bytes line rest cut)) ∙ e
 
-pub made-cut : (bytes line rest : List ℕ) (before after whole : Made) → CutsLine bytes line rest → IsRead (line_of line) before after
-    → made_of before (document_lines bytes) ≡ whole → made_of after (document_lines rest) ≡ whole
-made-cut bytes line rest before after whole cut read e =
-    ap (λ (m : Made). made_of m (document_lines rest)) read.made ∙ ap (made_of before) (sym (lines-cut bytes line rest cut)) ∙ e
+pub made-cut : (bytes line rest : List ℕ) (before whole : Made) → CutsLine bytes line rest
+    → made_of before (document_lines bytes) ≡ whole → made_of (made_behind before (line_of line)) (document_lines rest) ≡ whole
+made-cut bytes line rest before whole cut e = ap (made_of before) (sym (lines-cut bytes line rest cut)) ∙ e
 
 -- a fault but want of memory, under what it leads to
 pub unless-memory : (f : EsisFault) (P Q : Type 0) → (P → Q) → UnlessMemory f P → UnlessMemory f Q
@@ -77,15 +79,85 @@ left-by bytes fault (Ok tree) e reads = absurd e
 left-by bytes fault (Err f) e reads = subst (λ g. UnlessMemory g (fault_of bytes ≡ Some g)) (sym e) reads
 
 -- Behind the last line the root is the tree.
-pub root-read : (bytes rest : List ℕ) (number : ℕ) (made : Made) (root : Node) → rest ≡ [] → first_fault number (open_of made) (document_lines rest) ≡ fault_of bytes
-    → made_of made (document_lines rest) ≡ made_of nothing_made (document_lines bytes) → Finishes number made (Ok root) → IsReadAs bytes (plain_of root)
-root-read bytes rest number made root empty faults all finished =
-    let none : fault_of bytes ≡ None = sym faults ∙ ap (λ l. first_fault number (open_of made) (document_lines l)) empty ∙ ap (λ f. fault_or f number None) finished.0 in
+pub root-read : (bytes rest : List ℕ) (number : ℕ) (made : Made) (root : Plain) → rest ≡ [] → first_fault number (open_of made) (document_lines rest) ≡ fault_of bytes
+    → made_of made (document_lines rest) ≡ made_of nothing_made (document_lines bytes) → fault_at (open_of made) conforms ≡ None → made.root ≡ Some root → IsReadAs bytes root
+root-read bytes rest number made root empty faults all clean root_is =
+    let none : fault_of bytes ≡ None = sym faults ∙ ap (λ l. first_fault number (open_of made) (document_lines l)) empty ∙ ap (λ f. fault_or f number None) clean in
     let found = clean-read bytes none in
     let made_all : made ≡ made_of nothing_made (document_lines bytes) = ap (λ l. made_of made (document_lines l)) (sym empty) ∙ all in
-    let same : ◌≡◌ {A = Option Plain} (Some found.0) (Some (plain_of root)) = sym (read-clean bytes found.0 found.1).1 ∙ ap (λ (m : Made). m.root) (sym made_all) ∙ finished.1 in
-    let tree : found.0 ≡ plain_of root = cc in
+    let same : ◌≡◌ {A = Option Plain} (Some found.0) (Some root) = sym (read-clean bytes found.0 found.1).1 ∙ ap (λ (m : Made). m.root) (sym made_all) ∙ root_is in
+    let tree : found.0 ≡ root = cc in
     subst (IsReadAs bytes) tree found.1
+
+-- what has ended
+pub record HasEnded (m : Made) : Type 0 where
+  pub root : Plain
+  pub none_open : m.frames ≡ []
+  pub none_wait : m.waiting ≡ []
+  pub root_is : m.root ≡ Some root
+
+some_fault : {A : Type 0} {x : A} → ◌≡◌ {A = Option A} (Some x) None → ⊥
+some_fault e = cc
+
+ended_case : (m : Made) (frames : List Frame) (waiting : List Plain) (root : Option Plain) → m.frames ≡ frames → m.waiting ≡ waiting → m.root ≡ root → fault_at (open_of m) conforms ≡ None → HasEnded m
+ended_case m frames (w ∷ ws) root are wait is none = absurd (some_fault (rw wait at none))
+ended_case m [] [] None are wait is none = absurd (some_fault (rw (wait, are, is) at none))
+ended_case m (f ∷ fs) [] root are wait is none = absurd (some_fault (rw (wait, are) at none))
+ended_case m [] [] (Some root) are wait is none = record { root = root; none_open = are; none_wait = wait; root_is = is }
+
+pub has-ended : (m : Made) → fault_at (open_of m) conforms ≡ None → HasEnded m
+has-ended m none = ended_case m m.frames m.waiting m.root refl refl refl none
+
+-- Behind the last line the reader's document is done.
+pub record IsRoot (bytes : List ℕ) (m : Made) : Type 0 where
+  pub root : Plain
+  pub read : IsReadAs bytes root
+  pub done : IsDone m root
+
+pub read-done : (bytes rest : List ℕ) (number : ℕ) (m : Made) → rest ≡ [] → first_fault number (open_of m) (document_lines rest) ≡ fault_of bytes
+    → made_of m (document_lines rest) ≡ made_of nothing_made (document_lines bytes) → fault_at (open_of m) conforms ≡ None → IsRoot bytes m
+read-done bytes rest number m empty faults all clean =
+    let end = has-ended m clean in
+    let read = root-read bytes rest number m end.root empty faults all clean end.root_is in
+    record {
+      root = end.root;
+      read = read;
+      done = record {
+        none_open = end.none_open;
+        none_wait = end.none_wait;
+        root_is = end.root_is;
+        element = read.element;
+        sound = read-sound bytes end.root read;
+        low = read-levels bytes end.root read;
+      };
+    }
+
+-- no line leaves more elements open than there may be
+ended_frames : (m : Made) (frames : List Frame) → length (with_frames_ended m frames).frames ≤ length frames
+ended_frames m [] = omega arith
+ended_frames m (f ∷ []) = omega arith
+ended_frames m (f ∷ g ∷ fs) = omega arith
+
+put_frames : (nodes : List Plain) (fs : List Frame) → length (put nodes fs) ≡ length fs
+put_frames nodes [] = refl
+put_frames nodes (f ∷ fs) = refl
+
+attribute_frames : (m : Made) (name type raw : List ℕ) (implied : Bool) → is_implied type ≡ implied → length (made_behind m (attribute name type raw)).frames ≤ length m.frames
+attribute_frames m name type raw true e = rw e (omega arith)
+attribute_frames m name type raw false e = rw e (omega arith)
+
+pub frames-deep : (m : Made) (line : Line) → fault_at (open_of m) line ≡ None → length m.frames ≤ 512 → length (made_behind m line).frames ≤ 512
+frames-deep m (opens name) none deep =
+    omega (arith, deep, put_frames (text_of m.running) m.frames, length-map m.frames (λ (f : Frame). f.name), eqb-false _ _ (no_start_fault (open_of m) name none).2)
+frames-deep m (closes name) none deep = omega (arith, deep, ended_frames (with_text_ended m) (put (text_of m.running) m.frames), put_frames (text_of m.running) m.frames)
+frames-deep m (attribute name type raw) none deep = omega (arith, deep, attribute_frames m name type raw (is_implied type) refl)
+frames-deep m (characters raw) none deep = deep
+frames-deep m conforms none deep = deep
+frames-deep m passed_over none deep = deep
+
+-- A line and what follows it are no longer than the whole.
+pub cut-lengths : (bytes line rest : List ℕ) → CutsLine bytes line rest → length line + length rest ≤ length bytes
+cut-lengths bytes line rest cut = omega (arith, ap length cut.line_is, length-take cut.kept bytes, ap length cut.rest_is, length-drop cut.taken bytes, cut.fits, cut.within)
 
 -- A line takes a byte or more.
 pub rest-shorter : (bytes line rest : List ℕ) → CutsLine bytes line rest → length rest + 1 ≤ length bytes

@@ -8,14 +8,15 @@ use Rattle.tb_tree.specs.Names.{is_name}
 use Rattle.tb_esis.specs.Lines.{Line, opens, closes, attribute, characters, conforms, passed_over, is_implied, is_kept, document_lines}
 use Rattle.tb_esis.specs.Reading.{with_text, no_more, Kids, over, ended, conforming, IsReadAs}
 use Rattle.tb_esis.specs.Faults.{Open, at_start, fault_of, fault_at, after_line, is_none_of, is_innermost}
-use Rattle.tb_esis.specs.Machine.{Frame, Made, nothing_made, names_of, text_of, put, root_or, made_behind, open_of, has_begun}
+use Rattle.tb_tree.specs.Making.{Frame, Made, nothing_made, names_of, text_of, put, root_or, has_begun}
+use Rattle.tb_esis.specs.Machine.{made_behind, open_of}
 use Rattle.tb_esis.proofs.KeptLaws.{is_no_fault, is_clean, no_fault-none, none-clean, passes}
 use Rattle.tb_esis.proofs.OpenLaws.{open-behind}
 use Rattle.tb_esis.proofs.SpelledRuns.{plains-listed}
 use Rattle.tb_esis.proofs.MeaningLaws.{before_kids, KidsMean, child-mean, OutsideMeans, Means, MadeMeans, Leads, not-true, some_none, kept_none, no_names, characters_lead, attribute_leads}
 
 -- a start
-no_start_fault : (o : Open) (name : List ℕ) → fault_at o (opens name) ≡ None → IsTrue (is_name name) × ((o.begun && is_none_of o.elements) ≡ false) × (nat_eq (length o.elements) 512 ≡ false)
+pub no_start_fault : (o : Open) (name : List ℕ) → fault_at o (opens name) ≡ None → IsTrue (is_name name) × ((o.begun && is_none_of o.elements) ≡ false) × (nat_eq (length o.elements) 512 ≡ false)
 no_start_fault o name e =
     let one = kept_none (not (is_name name)) _ _ e in
     let two = kept_none (o.begun && is_none_of o.elements) _ _ one.1 in

@@ -6,11 +6,12 @@ use Rattle.std.specs.List.{list_any}
 use Rattle.std.proofs.lemmas.Slice.Eq.{bytes_eq-Decides}
 use Rattle.std.specs.Str.{bytes_eq}
 use Rattle.tb_tree.specs.Plain.{Plain, elem, attr, Plains, no_kids, kid, plains, kids_listed}
-use Rattle.tb_esis.specs.Escapes.{unescaped}
+use Rattle.tb_tree.specs.Escapes.{unescaped}
 use Rattle.tb_esis.specs.Lines.{Line, opens, closes, attribute, characters}
 use Rattle.tb_esis.specs.Reading.{with_text, Attributes, no_more, next, Kids, over, goes_on, child}
 use Rattle.tb_esis.specs.Faults.{fault_at}
-use Rattle.tb_esis.specs.Machine.{Frame, Made, names_of, attribute_name, text_of, made_behind, made_of, open_of}
+use Rattle.tb_tree.specs.Making.{Frame, Made, names_of, attribute_name, text_of}
+use Rattle.tb_esis.specs.Machine.{made_behind, made_of, open_of}
 use Rattle.tb_esis.proofs.KeptLaws.{is_no_fault, is_clean}
 use Rattle.tb_esis.proofs.OpenLaws.{open-behind}
 

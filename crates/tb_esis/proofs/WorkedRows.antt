@@ -1,6 +1,6 @@
 -- Bodies and their faults, and data with escapes, computed.
 use Rattle.std.proofs.Common.{◌≡◌, [], ◌∷◌, ◌++◌, Some, None, codes, refl}
-use Rattle.tb_esis.specs.Escapes.{unescaped}
+use Rattle.tb_tree.specs.Escapes.{unescaped}
 use Rattle.tb_esis.specs.Faults.{fault_of}
 use Rattle.tb_esis.specs.declared.fault.EsisFault.TheVariants.{BadEscape, BadName, BadAttribute, NoElement, WrongEnd, NotEnded, SecondRoot, TextOutside}
 

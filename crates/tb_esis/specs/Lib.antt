@@ -1,11 +1,8 @@
 -- What lines are, how they are read as a tree, and which fault they have; then words of private
 -- clauses, and what the calls answer.
-pub mod Escapes
 pub mod Lines
 pub mod Reading
 pub mod Faults
 pub mod Machine
-pub mod Escaped
 pub mod Readers
-pub mod Written
 pub mod Calls

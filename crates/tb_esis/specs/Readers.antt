@@ -1,18 +1,17 @@
 -- What the reader's values stand for, and what its calls answer: words of private clauses.
-use Rattle.std.specs.Prelude.{◌≡◌, ℕ, List, map, reverse, Some, None, Result, Ok, Err}
+use Rattle.std.specs.Prelude.{◌≡◌, ℕ, ◌+◌, ◌*◌, if◌then◌else◌, List, length, Some, None, Result, Ok, Err}
 use Rattle.std.specs.List.{list_any}
 use Rattle.std.specs.Str.{bytes_eq}
-use Rattle.std.specs.Option.{option_map}
-use Rattle.tb_tree.specs.View.{plain_of}
-use Rattle.tb_tree.specs.declared.node.Node.{Node}
+use Rattle.tb_tree.specs.Sound.{is_empty_list}
+use Rattle.tb_tree.specs.Making.{Made, names_of, with_more_text}
+use Rattle.tb_tree.specs.Drafts.{Shows}
 use Rattle.tb_esis.specs.Lines.{Line, opens, closes, attribute, characters, conforms, passed_over}
-use Rattle.tb_esis.specs.Faults.{fault_at, fault_or}
+use Rattle.tb_esis.specs.Faults.{fault_at, fault_of_data, fault_or}
 use Rattle.tb_esis.specs.Calls.{UnlessMemory}
-use Rattle.tb_esis.specs.Machine.{Frame, Made, names_of, made_behind, open_of}
+use Rattle.tb_esis.specs.Machine.{made_behind, open_of}
 use Rattle.tb_esis.specs.declared.line.Line as code
 use Rattle.tb_esis.specs.declared.line.Line.TheVariants as kind
-use Rattle.tb_esis.specs.declared.frames.Frame as frame_code
-use Rattle.tb_esis.specs.declared.reader.Reader as reader_code
+use Rattle.tb_esis.specs.declared.reader.Reader.{Reader}
 use Rattle.tb_esis.specs.declared.fault.EsisFault.{EsisFault}
 
 -- the line that was cut
@@ -24,42 +23,36 @@ said_by (kind.Characters raw) = characters raw.now
 said_by kind.Conforms = conforms
 said_by kind.PassedOver = passed_over
 
--- an open element
-abbrev pub frame_by : frame_code.Frame → Frame
-frame_by f = record { name = f.name; kids = map plain_of f.kids.items }
+-- how many bytes a line prints at most, where it has no fault
+abbrev pub weight : Line → ℕ
+weight (opens name) = 2 + length name
+weight (closes name) = 2 + length name
+weight (attribute name type raw) = if is_empty_list type then 0 else 9 + length name + 4 * length raw
+weight (characters raw) = 2 + 4 * length raw
+weight conforms = 0
+weight passed_over = 0
 
--- the open elements, the last of which is the innermost
-abbrev pub frames_by : List frame_code.Frame → List Frame
-frames_by frames = map frame_by (reverse frames)
+-- The reader's draft shows what has been made, and its names are those of the attributes that wait.
+pub record IsReading (r : Reader) (m : Made) : Type 0 where
+  pub shown : Shows r.draft m
+  pub noted :
+      (name : List ℕ)
+      → list_any (λ k. bytes_eq name k.now) r.names.keys ≡ list_any (bytes_eq name) (names_of m.waiting)
 
-abbrev pub made_by : reader_code.Reader → Made
-made_by r = record {
-  frames = frames_by r.frames.items;
-  running = r.running.items;
-  waiting = map plain_of r.waiting.items;
-  root = option_map plain_of r.root;
-}
-
--- the names are those of the attributes that wait
-abbrev pub IsNoted : reader_code.Reader → Type 0
-IsNoted r =
-    (name : List ℕ)
-    → list_any (λ k. bytes_eq name k.now) r.names.keys
-    ≡ list_any (bytes_eq name) (names_of (map plain_of r.waiting.items))
+-- the line is read
+pub record IsRead (line : Line) (m : Made) (r : Reader) : Type 0 where
+  pub no_fault : fault_at (open_of m) line ≡ None
+  pub reading : IsReading r (made_behind m line)
 
 -- the line is read, or has the fault at its number
-pub record IsRead (line : Line) (before after : Made) : Type 0 where
-  pub no_fault : fault_at (open_of before) line ≡ None
-  pub made : after ≡ made_behind before line
+abbrev pub ReadsLine : {A : Type 0} → Line → ℕ → Made → Reader → Result A EsisFault → Type 0
+ReadsLine line number m r (Ok done) = IsRead line m r
+ReadsLine line number m r (Err fault) =
+    UnlessMemory fault (fault_or (fault_at (open_of m) line) number None ≡ Some fault)
 
-abbrev pub ReadsLine : {A : Type 0} → Line → ℕ → Made → Made → Result A EsisFault → Type 0
-ReadsLine line number before after (Ok done) = IsRead line before after
-ReadsLine line number before after (Err fault) =
-    UnlessMemory fault (fault_or (fault_at (open_of before) line) number None ≡ Some fault)
-
--- the root at the end of the lines, or their last fault, whose number is past the last line
-abbrev pub Finishes : ℕ → Made → Result Node EsisFault → Type 0
-Finishes number made (Ok root) =
-    (fault_at (open_of made) conforms ≡ None) × (made.root ≡ Some (plain_of root))
-Finishes number made (Err fault) =
-    UnlessMemory fault (fault_or (fault_at (open_of made) conforms) number None ≡ Some fault)
+-- the bytes that data gave are taken up, or they may not stand there
+abbrev pub TakesData : {A : Type 0} → List ℕ → ℕ → Made → Reader → Result A EsisFault → Type 0
+TakesData value number m r (Ok done) =
+    (fault_of_data (open_of m) (Some value) ≡ None) × IsReading r (with_more_text m value)
+TakesData value number m r (Err fault) =
+    UnlessMemory fault (fault_or (fault_of_data (open_of m) (Some value)) number None ≡ Some fault)

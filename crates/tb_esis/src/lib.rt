@@ -5,18 +5,14 @@
 //! (`printed`) or nothing (`unchanged`).
 #![tactic(auto)]
 
-mod escaped;
 mod fault;
-mod frames;
 mod line;
-mod printer;
 mod reader;
 mod reading;
-mod unescaped;
 
 pub use fault::EsisFault;
-pub use printer::write_nodes;
 pub use reading::read_tree;
+pub use tb_tree::write_nodes;
 
 #[cfg(test)]
 mod tests;

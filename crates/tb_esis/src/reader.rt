@@ -1,128 +1,107 @@
-//! Reading: one pass over the lines, with the open elements on a stack.
+//! Reading: one pass over the lines, which a draft of the document takes up.
 
-ghost use Rattle.std.specs.Prelude.{◌≡◌, false, OnOk, map};
+ghost use Rattle.std.specs.Prelude.{◌≡◌, ◌≤◌, ◌+◌, ◌*◌, false, length, IfOk, OnOk};
 ghost use Rattle.std.specs.List.{list_any};
+ghost use Rattle.std.specs.Option.{option_map};
 ghost use Rattle.std.specs.Str.{bytes_eq};
-ghost use Rattle.tb_tree.specs.View.{plain_of};
+ghost use Rattle.tb_tree.specs.Sound.{is_empty_list};
+ghost use Rattle.tb_tree.specs.Escapes.{unescaped};
+ghost use Rattle.tb_tree.specs.Making.{Made, nothing_made, names_of, with_attribute};
+ghost use Rattle.tb_tree.specs.Drafts.{HasRoom};
 ghost use Rattle.tb_esis.specs.Lines.{opens, closes, attribute, characters, conforms, line_of};
-ghost use Rattle.tb_esis.specs.Machine.{nothing_made, names_of, made_behind, with_attribute, with_text_ended, with_element_ended};
-ghost use Rattle.tb_esis.specs.Readers.{made_by, IsNoted, ReadsLine, Finishes};
+ghost use Rattle.tb_esis.specs.Readers.{weight, IsReading, ReadsLine, TakesData};
 
 use crate::EsisFault;
-use crate::frames::{Frame, is_innermost, put};
 use crate::line::{Line, is_implied, is_name, line_of};
-use crate::unescaped::push_unescaped;
+use memchr::memchr;
 use std::alloc::{AllocError, Global};
 use std::collections::BTreeSet;
-use std::mem::replace;
-use tb_tree::{Bytes, Items, Node};
+use tb_tree::{Draft, push_unescaped};
 
 /// Elements that may be open at once.
 const MOST_LEVELS: usize = 512;
 
 /// What has been made of the lines so far.
-#[derive(Debug, Drop)]
+#[derive(Drop)]
 pub struct Reader<'a> {
-    alloc: Global,
-    /// The innermost last.
-    pub frames: Vec<Frame>,
-    /// The bytes of the text that goes on.
-    pub running: Vec<u8>,
-    /// The attributes that wait for an element.
-    pub waiting: Vec<Node>,
-    /// Their names. An element may have so many attributes that a search of each takes too long.
+    pub draft: Draft,
+    /// The names of the attributes that wait. An element may have so many that a search of each takes too
+    /// long.
     pub names: BTreeSet<&'a [u8]>,
-    /// The root, where it has ended.
-    pub root: Option<Node>,
 }
 
 impl<'a> Reader<'a> {
-    pub fn new(alloc: Global) -> Reader<'a>
-        ensures made { made_by result ≡ nothing_made }
-        ensures noted { IsNoted result }
+    pub fn new(alloc: Global) -> Result<Reader<'a>, AllocError>
+        ensures reading { IfOk result (λ reader. IsReading reader nothing_made) }
+        ensures empty { IfOk result (λ reader. length reader.draft.text.items ≡ 0) }
     {
-        Reader {
-            alloc,
-            frames: Vec::new(alloc),
-            running: Vec::new(alloc),
-            waiting: Vec::new(alloc),
+        Ok(Reader {
+            draft: Draft::new(alloc)?,
             names: BTreeSet::new(alloc),
-            root: None,
-        }
+        })
     }
 
-    /// The root, behind the last line; the number is past that line's.
-    pub fn finish(self, number: u32) -> Result<Node, EsisFault>
-        ensures { Finishes number (made_by self.entry) result }
+    /// What has been made.
+    pub fn into_draft(self) -> Draft
+        ensures { result ≡ self.entry.draft }
     {
-        self.conform(number)?;
-        let Reader { root, .. } = self;
-        let Some(root) = root else {
-            unreachable!();
-        };
-        Ok(root)
+        let Reader { draft, .. } = self;
+        draft
     }
 
     /// Reads the line with the number, from 1.
-    pub fn read(&mut self, line: &'a [u8], number: u32) -> Result<(), EsisFault>
-        requires noted { IsNoted self.old }
-        ensures read { ReadsLine (line_of line.now) number (made_by self.old) (made_by self.new) result }
-        ensures noted { OnOk result (IsNoted self.new) }
+    pub fn read(
+        &mut self,
+        line: &'a [u8],
+        number: u32,
+        scratch: &mut Vec<u8>,
+    ) -> Result<(), EsisFault>
+        requires room { HasRoom self.old.draft (4 * length line.now) }
+        ensures read { (m : Made) → IsReading self.old m → ReadsLine (line_of line.now) number m self.new result }
+        ensures grown { OnOk result (length self.new.draft.text.items ≤ length self.old.draft.text.items + 4 * length line.now) }
     {
         match line_of(line) {
             Line::Opens(name) => self.open(name, number),
             Line::Closes(name) => self.close(name, number),
-            Line::Attribute(name, kind, raw) => self.wait(name, kind, raw, number),
-            Line::Characters(raw) => self.go_on(raw, number),
+            Line::Attribute(name, kind, raw) => self.wait(name, kind, raw, number, scratch),
+            Line::Characters(raw) => self.go_on(raw, number, scratch),
             Line::Conforms => self.conform(number),
             Line::PassedOver => Ok(()),
         }
     }
 
     fn open(&mut self, name: &[u8], number: u32) -> Result<(), EsisFault>
-        requires noted { IsNoted self.old }
-        ensures read { ReadsLine (opens name.now) number (made_by self.old) (made_by self.new) result }
-        ensures noted { OnOk result (IsNoted self.new) }
+        requires room { HasRoom self.old.draft (weight (opens name.now)) }
+        ensures read { (m : Made) → IsReading self.old m → ReadsLine (opens name.now) number m self.new result }
+        ensures grown { OnOk result (length self.new.draft.text.items ≤ length self.old.draft.text.items + weight (opens name.now)) }
     {
         if !is_name(name) {
             return Err(EsisFault::BadName(number));
         }
-        if self.frames.is_empty() && self.root.is_some() {
+        let depth = self.draft.depth();
+        if self.draft.has_begun() && depth == 0 {
             return Err(EsisFault::SecondRoot(number));
         }
-        if self.frames.len() == MOST_LEVELS {
+        if depth == MOST_LEVELS {
             return Err(EsisFault::TooDeep(number));
         }
-        Ok(self.start(name)?)
-    }
-
-    fn start(&mut self, name: &[u8]) -> Result<(), AllocError>
-        requires noted { IsNoted self.old }
-        ensures made { OnOk result
-            (made_by self.new ≡ made_behind (made_by self.old) (opens name.now)) }
-        ensures noted { OnOk result (IsNoted self.new) }
-    {
-        self.end_text()?;
-        let kids = replace(&mut self.waiting, Vec::new(self.alloc));
         self.names.clear();
-        let name = Bytes::from_vec(name.to_vec(self.alloc)?);
-        self.frames.push(Frame { name, kids })?;
+        self.draft.start(name)?;
         Ok(())
     }
 
     fn close(&mut self, name: &[u8], number: u32) -> Result<(), EsisFault>
-        requires noted { IsNoted self.old }
-        ensures read { ReadsLine (closes name.now) number (made_by self.old) (made_by self.new) result }
-        ensures noted { OnOk result (IsNoted self.new) }
+        requires room { HasRoom self.old.draft (weight (closes name.now)) }
+        ensures read { (m : Made) → IsReading self.old m → ReadsLine (closes name.now) number m self.new result }
+        ensures grown { OnOk result (length self.new.draft.text.items ≤ length self.old.draft.text.items + weight (closes name.now)) }
     {
-        if !self.waiting.is_empty() {
+        if self.draft.is_waiting() {
             return Err(EsisFault::BadAttribute(number));
         }
-        if !is_innermost(name, &self.frames) {
+        if !self.draft.is_innermost(name) {
             return Err(EsisFault::WrongEnd(number));
         }
-        self.end_text()?;
-        self.end_element()?;
+        self.draft.end(name)?;
         Ok(())
     }
 
@@ -132,121 +111,103 @@ impl<'a> Reader<'a> {
         kind: &[u8],
         raw: &[u8],
         number: u32,
+        scratch: &mut Vec<u8>,
     ) -> Result<(), EsisFault>
-        requires noted { IsNoted self.old }
-        ensures read { ReadsLine (attribute name.now kind.now raw.now) number
-            (made_by self.old) (made_by self.new) result }
-        ensures noted { OnOk result (IsNoted self.new) }
+        requires room { HasRoom self.old.draft (weight (attribute name.now kind.now raw.now)) }
+        ensures read { (m : Made) → IsReading self.old m → ReadsLine (attribute name.now kind.now raw.now) number m self.new result }
+        ensures grown { OnOk result (length self.new.draft.text.items ≤ length self.old.draft.text.items + weight (attribute name.now kind.now raw.now)) }
     {
         if !is_name(name) {
             return Err(EsisFault::BadName(number));
         }
-        if kind.is_empty() {
+        if is_empty(kind) {
             return Err(EsisFault::BadAttribute(number));
         }
         if is_implied(kind) {
             return Ok(());
         }
-        if self.is_among(name) {
+        if self.names.contains(name) {
             return Err(EsisFault::BadAttribute(number));
         }
-        let mut value = Vec::new(self.alloc);
-        if !push_unescaped(raw, &mut value)? {
+        let Some(value) = given(raw, scratch)? else {
             return Err(EsisFault::BadEscape(number));
-        }
-        value.shrink_to_fit();
-        Ok(self.add_attribute(name, value)?)
+        };
+        Ok(self.add(name, value)?)
     }
 
-    /// Whether an attribute that waits has the name.
-    fn is_among(&self, name: &[u8]) -> bool
-        requires noted { IsNoted self.now }
-        ensures { result
-            ≡ list_any (bytes_eq name.now) (names_of (map plain_of self.now.waiting.items)) }
-    {
-        self.names.contains(name)
-    }
-
-    fn add_attribute(&mut self, name: &'a [u8], value: Vec<u8>) -> Result<(), AllocError>
-        requires noted { IsNoted self.old }
-        requires new { list_any (bytes_eq name.now) (names_of (map plain_of self.old.waiting.items)) ≡ false }
-        ensures made { OnOk result
-            (made_by self.new ≡ with_attribute (made_by self.old) name.now value.items) }
-        ensures noted { OnOk result (IsNoted self.new) }
+    /// The attribute waits.
+    fn add(&mut self, name: &'a [u8], value: &[u8]) -> Result<(), AllocError>
+        requires room { HasRoom self.old.draft (9 + length name.now + 4 * length value.now) }
+        ensures added { OnOk result ((m : Made) → IsReading self.old m → list_any (bytes_eq name.now) (names_of m.waiting) ≡ false
+            → IsReading self.new (with_attribute m name.now value.now)) }
+        ensures grown { OnOk result (length self.new.draft.text.items ≤ length self.old.draft.text.items + (9 + length name.now + 4 * length value.now)) }
     {
         self.names.insert(name)?;
-        let name = Bytes::from_vec(name.to_vec(self.alloc)?);
-        let value = Bytes::from_vec(value);
-        self.waiting.push(Node::Attr { name, value })?;
+        self.draft.attribute(name, value)?;
         Ok(())
     }
 
-    fn go_on(&mut self, raw: &[u8], number: u32) -> Result<(), EsisFault>
-        requires noted { IsNoted self.old }
-        ensures read { ReadsLine (characters raw.now) number (made_by self.old) (made_by self.new) result }
-        ensures noted { OnOk result (IsNoted self.new) }
+    fn go_on(&mut self, raw: &[u8], number: u32, scratch: &mut Vec<u8>) -> Result<(), EsisFault>
+        requires room { HasRoom self.old.draft (weight (characters raw.now)) }
+        ensures read { (m : Made) → IsReading self.old m → ReadsLine (characters raw.now) number m self.new result }
+        ensures grown { OnOk result (length self.new.draft.text.items ≤ length self.old.draft.text.items + weight (characters raw.now)) }
     {
-        let before = self.running.len();
-        if !push_unescaped(raw, &mut self.running)? {
+        let Some(value) = given(raw, scratch)? else {
             return Err(EsisFault::BadEscape(number));
-        }
-        if !self.waiting.is_empty() {
+        };
+        self.take_data(value, number)
+    }
+
+    /// The text goes on with these bytes.
+    fn take_data(&mut self, value: &[u8], number: u32) -> Result<(), EsisFault>
+        requires room { HasRoom self.old.draft (2 + 4 * length value.now) }
+        ensures read { (m : Made) → IsReading self.old m → TakesData value.now number m self.new result }
+        ensures grown { OnOk result (length self.new.draft.text.items ≤ length self.old.draft.text.items + (2 + 4 * length value.now)) }
+    {
+        if self.draft.is_waiting() {
             return Err(EsisFault::BadAttribute(number));
         }
-        if self.frames.is_empty() && self.running.len() != before {
+        if self.draft.depth() == 0 && !value.is_empty() {
             return Err(EsisFault::TextOutside(number));
         }
+        self.draft.more_text(value)?;
         Ok(())
     }
 
     /// The tests of a line `C`, and those behind the last line.
-    fn conform(&self, number: u32) -> Result<(), EsisFault>
-        ensures read { ReadsLine conforms number (made_by self.now) (made_by self.now) result }
+    pub fn conform(&self, number: u32) -> Result<(), EsisFault>
+        ensures read { (m : Made) → IsReading self.now m → ReadsLine conforms number m self.now result }
     {
-        if !self.waiting.is_empty() {
+        if self.draft.is_waiting() {
             return Err(EsisFault::BadAttribute(number));
         }
-        if !self.frames.is_empty() {
-            return Err(EsisFault::NotEnded(number));
-        }
-        if self.root.is_none() {
+        if !self.draft.has_begun() {
             return Err(EsisFault::NoElement(number));
+        }
+        if self.draft.depth() != 0 {
+            return Err(EsisFault::NotEnded(number));
         }
         Ok(())
     }
+}
 
-    /// Makes a node of the text that goes on.
-    fn end_text(&mut self) -> Result<(), AllocError>
-        requires noted { IsNoted self.old }
-        ensures made { OnOk result (made_by self.new ≡ with_text_ended (made_by self.old)) }
-        ensures noted { OnOk result (IsNoted self.new) }
-    {
-        if self.running.is_empty() {
-            return Ok(());
-        }
-        let mut value = replace(&mut self.running, Vec::new(self.alloc));
-        value.shrink_to_fit();
-        let value = Bytes::from_vec(value);
-        put(&mut self.frames, Node::Text { value })
-    }
+fn is_empty(bytes: &[u8]) -> bool
+    ensures { result ≡ is_empty_list bytes.now }
+{
+    bytes.is_empty()
+}
 
-    /// Ends the innermost element.
-    fn end_element(&mut self) -> Result<(), AllocError>
-        requires noted { IsNoted self.old }
-        ensures made { OnOk result (made_by self.new ≡ with_element_ended (made_by self.old)) }
-        ensures noted { OnOk result (IsNoted self.new) }
-    {
-        let Some(Frame { name, mut kids }) = self.frames.pop() else {
-            return Ok(());
-        };
-        // Most elements have few kids, and room for more would take more memory than the kids.
-        kids.shrink_to_fit();
-        let kids = Items::from_vec(kids);
-        let node = Node::Elem { name, kids };
-        if self.frames.is_empty() {
-            self.root = Some(node);
-            return Ok(());
-        }
-        put(&mut self.frames, node)
+/// What the raw bytes give, which are themselves where they have no escape; none where a backslash among them
+/// begins none.
+fn given<'b>(raw: &'b [u8], scratch: &'b mut Vec<u8>) -> Result<Option<&'b [u8]>, AllocError>
+    ensures { IfOk result (λ given. option_map (λ bytes. bytes.now) given ≡ unescaped raw.now) }
+{
+    let Some(_at) = memchr(b'\\', raw) else {
+        return Ok(Some(raw));
+    };
+    scratch.clear();
+    if !push_unescaped(raw, scratch)? {
+        return Ok(None);
     }
+    Ok(Some(scratch.as_slice()))
 }

@@ -19,17 +19,15 @@ pub fn read_tree(alloc: Global, lines: &[u8]) -> Result<Tree, EsisFault>
     ensures levels { IfOk result (λ tree. levels (one (plain_of tree)) ≤ 512) }
     ensures fewer { IfOk result (λ tree. count (plain_of tree) < length lines.now) }
 {
-    let mut reader = Reader::new(alloc);
+    let mut reader = Reader::new(alloc)?;
+    let mut scratch = Vec::new(alloc);
     let mut rest = lines;
     let mut number = 1;
     'lines: while let Some((line, behind)) = next_line(rest) {
-        reader.read(line, number)?;
+        reader.read(line, number, &mut scratch)?;
         rest = behind;
         number += 1;
     }
-    let root = reader.finish(number)?;
-    let Some(tree) = Tree::new(root) else {
-        unreachable!();
-    };
-    Ok(tree)
+    reader.conform(number)?;
+    Ok(reader.into_draft().finish())
 }

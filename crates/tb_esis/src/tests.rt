@@ -8,9 +8,8 @@ ghost use Rattle.tb_tree.specs.Levels.{levels};
 ghost use Rattle.tb_tree.specs.Printed.{printed_node};
 ghost use Rattle.tb_esis.specs.declared.fault.EsisFault.TheVariants.{NoMemory};
 
-use crate::{EsisFault, read_tree, write_nodes};
+use crate::{EsisFault, read_tree};
 use std::alloc::{AllocError, Global};
-use std::slice::from_ref;
 use std::test::Fail;
 use tb_tree::{Tree, value};
 
@@ -92,10 +91,7 @@ fn printed(alloc: Global, tree: &Tree) -> Result<Vec<u8>, AllocError>
     ensures element { IsTrue (is_element (plain_of tree.now)) }
     ensures lines { IfOk result (λ lines. lines.items ≡ printed_node (plain_of tree.now)) }
 {
-    let root = tree.root();
-    let mut out = Vec::new(alloc);
-    write_nodes(alloc, from_ref(root), &mut out)?;
-    Ok(out)
+    tree.text().to_vec(alloc)
 }
 
 // The document that was printed and read, or none where what it prints is too long to be read. Its clauses
@@ -212,7 +208,7 @@ fn value_of_copy(alloc: Global, lines: &[u8]) -> Result<Vec<u8>, AllocError>
     let Ok(tree) = read_tree(alloc, lines) else {
         return Ok(Vec::new(alloc));
     };
-    let copy = tree.root().copy(alloc)?;
+    let copy = tree.root(alloc)?.copy(alloc)?;
     let bytes = value(alloc, &copy)?;
     Ok(bytes.into_vec())
 }

@@ -1,11 +1,10 @@
-pub mod NamesLaws
 pub mod RowLaws
-pub mod EntryLaws
-pub mod LinkLaws
-pub mod ListingLaws
-pub mod NodeLaws
 pub mod PlacedLaws
 pub mod NestLaws
 pub mod AgreeLaws
 pub mod AxisLaws
+pub mod PickedLaws
+pub mod FitLaws
+pub mod NamesLaws
+pub mod AddLaws
 pub mod WorkedRows

@@ -15,8 +15,7 @@ use Rattle.tb_tree.specs.declared.node_test.Test.{Test}
 use Rattle.tb_label.specs.Rows.{Row, rows_of, item_of, listed, document_label, Follows, inside, beside}
 use Rattle.tb_label.specs.Stores.{document_item_of}
 use Rattle.tb_tree.proofs.lists.Alls.{all-both, all-weaker}
-use Rattle.tb_label.proofs.RowLaws.{IsUnder, AllFollow, all_under, all_follow}
-use Rattle.tb_label.proofs.LinkLaws.{length-rows}
+use Rattle.tb_label.proofs.RowLaws.{IsUnder, AllFollow, all_under, all_follow, length-rows}
 
 -- what holds of all elements holds of those that are kept
 kept-one : {X Y : Type 0} (Q : Y → Type 0) (f : X → Y) (x : X) (ys : List X) (keep : Bool) → Q (f x) → AllByRecursion Q (map f ys) → AllByRecursion Q (map f (if keep then x ∷ ys else ys))

@@ -125,3 +125,15 @@ all_follow clock number parent at k (kid (text value) rest) = (
       (right_follows at k (clock + 2) (clock + 2 + 2 * counts rest) (leaf_row clock number parent at k (text value)) [] refl (omega arith)) (all_under (clock + 2) (number + 1) parent at (k + 1) rest),
   all_follow (clock + 2) (number + 1) parent at (k + 1) rest,
 )
+
+pub length-rows : (clock number parent : ℕ) (at : List ℕ) (k : ℕ) (ks : Plains) → length (rows clock number parent at k ks) ≡ counts ks
+length-rows clock number parent at k no_kids = refl
+length-rows clock number parent at k (kid (elem name kids) rest) =
+    omega (
+      arith,
+      length-append (rows (clock + 1) (number + 1) number (at ++ k ∷ []) 0 kids) (rows (clock + 2 * counts kids + 2) (number + 1 + counts kids) parent at (k + 1) rest),
+      length-rows (clock + 1) (number + 1) number (at ++ k ∷ []) 0 kids,
+      length-rows (clock + 2 * counts kids + 2) (number + 1 + counts kids) parent at (k + 1) rest,
+    )
+length-rows clock number parent at k (kid (attr name value) rest) = omega (arith, length-rows (clock + 2) (number + 1) parent at (k + 1) rest)
+length-rows clock number parent at k (kid (text value) rest) = omega (arith, length-rows (clock + 2) (number + 1) parent at (k + 1) rest)

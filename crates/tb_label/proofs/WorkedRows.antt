@@ -5,7 +5,7 @@ use Rattle.tb_span.specs.declared.item.Item.{Item}
 use Rattle.tb_tree.specs.Plain.{Plain, elem, attr, text, no_kids, kid, one}
 use Rattle.tb_tree.specs.declared.node_test.Test.TheVariants.{Name, AnyElement, AttrName, AnyText}
 use Rattle.tb_label.specs.Rows.{rows_of, document_label, listed}
-use Rattle.tb_label.specs.Nodes.{node_at}
+use Rattle.tb_tree.specs.Nodes.{node_at}
 
 abbrev span : ℕ → ℕ → ℕ → Span
 span start end level = record { start = start; end = end; level = level }

@@ -1,6 +1,5 @@
+-- The rows of a document; what a store keeps of them, and what of that comes from extents alone.
 pub mod Rows
-pub mod Nodes
-pub mod Entries
 pub mod Lists
-pub mod Chosen
+pub mod Picked
 pub mod Stores

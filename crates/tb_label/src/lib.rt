@@ -1,7 +1,6 @@
 //! Stores: documents with the labels of their nodes and the list of each test.
 #![tactic(auto)]
 
-mod entry;
 mod listing;
 mod lists;
 mod store;

@@ -1,60 +1,53 @@
-//! The walk that puts each node's item into the lists of the tests that it meets.
+//! The lists of all tests, filled in one pass over a document's extents.
 
-ghost use Rattle.std.specs.Prelude.{◌≡◌, ◌+◌, ◌^◌, ◌<◌, ◌≤◌, ◌++◌, drop, length, IfOk, OnOk};
-ghost use Rattle.tb_tree.specs.Plain.{one};
-ghost use Rattle.tb_tree.specs.View.{plain_of, plains_of};
-ghost use Rattle.tb_tree.specs.Numbers.{count, counts};
+ghost use Rattle.std.specs.Prelude.{◌≡◌, ◌^◌, ◌<◌, length, map, IfOk};
+ghost use Rattle.tb_tree.specs.NameTables.{AreApart};
+ghost use Rattle.tb_tree.specs.Extents.{named};
 ghost use Rattle.tb_tree.specs.declared.node_test.Test.{Test};
 ghost use Rattle.tb_label.specs.Lists.{in_lists};
-ghost use Rattle.tb_label.specs.Nodes.{nodes_of};
-ghost use Rattle.tb_label.specs.Chosen.{chosen};
+ghost use Rattle.tb_label.specs.Picked.{item_at, picked, AreFit};
 
-use crate::entry::Entry;
 use crate::lists::Lists;
 use std::alloc::{AllocError, Global};
-use tb_tree::Node;
+use tb_span::{Item, Label, NodeId};
+use tb_tree::{Bytes, Extent};
 
-/// Lists a node and all nodes below it, the node's entry being at `first`. Gives where the entries
-/// behind them are.
-#[cycle(listing)]
-fn list_node(
+/// The lists of the nodes with these extents, the first of which has the number 1.
+pub fn lists_of(
     alloc: Global,
-    node: &Node,
-    first: u32,
-    entries: &[Entry],
-    lists: &mut Lists,
-) -> Result<u32, AllocError>
-    requires entered { first + count (plain_of node.now) ≤ length entries.now }
-    requires numbers { length entries.now < 2 ^ 32 }
-    ensures next { IfOk result (λ next. next ≡ first + count (plain_of node.now)) }
-    ensures listed { OnOk result ((t : Test) → in_lists lists.new t
-        ≡ in_lists lists.old t ++ chosen t first (nodes_of (one (plain_of node.now))) (drop first entries.now)) }
+    extents: &[Extent],
+    elements: &[Bytes],
+    attributes: &[Bytes],
+) -> Result<Lists, AllocError>
+    requires few { length extents.now < 2 ^ 30 }
+    requires fit { AreFit (length elements.now) (length attributes.now) extents.now }
+    requires elements { AreApart elements.now }
+    requires attributes { AreApart attributes.now }
+    ensures { IfOk result (λ lists. (t : Test)
+        → in_lists lists t ≡ picked t 1 (map (named elements.now attributes.now) extents.now)) }
 {
-    lists.add(alloc, node, &entries[first as usize].item(first))?;
-    let Node::Elem { kids, .. } = node else {
-        return Ok(first + 1);
-    };
-    list_all(alloc, kids.as_slice(), first + 1, entries, lists)
+    let mut lists = Lists::new(alloc, elements, attributes)?;
+    let mut number = 1;
+    'extents: for extent in extents {
+        lists.add(extent, &item_at(number, extent.last, extent.level))?;
+        number += 1;
+    }
+    Ok(lists)
 }
 
-/// The same for all kids of a node.
-#[cycle(listing)]
-pub fn list_all(
-    alloc: Global,
-    kids: &[Node],
-    first: u32,
-    entries: &[Entry],
-    lists: &mut Lists,
-) -> Result<u32, AllocError>
-    requires entered { first + counts (plains_of kids.now) ≤ length entries.now }
-    requires numbers { length entries.now < 2 ^ 32 }
-    ensures next { IfOk result (λ next. next ≡ first + counts (plains_of kids.now)) }
-    ensures listed { OnOk result ((t : Test) → in_lists lists.new t
-        ≡ in_lists lists.old t ++ chosen t first (nodes_of (plains_of kids.now)) (drop first entries.now)) }
+/// The item of the node with that number, from its level and from the number of its last descendant.
+pub fn item_at(number: u32, last: u32, level: u16) -> Item
+    requires number { number < 2 ^ 30 }
+    requires last { last < 2 ^ 30 }
+    ensures { result ≡ item_at number last level }
 {
-    let mut next = first;
-    'kids: for node in kids {
-        next = list_node(alloc, node, next, entries, lists)?;
+    let start = (2 * number + 1).saturating_sub(u32::from(level));
+    let end = start + 2 * last.saturating_sub(number) + 1;
+    let Some(label) = Label::new(start, end, level) else {
+        unreachable!();
+    };
+    Item {
+        label,
+        node: NodeId::new(number),
     }
-    Ok(next)
 }

@@ -1,53 +1,66 @@
 //! The lists of a store: for each test the nodes that meet it.
 
-ghost use Rattle.std.specs.Prelude.{◌≡◌, ◌++◌, ℕ, List, [], IfOk, OnOk};
-ghost use Rattle.std.specs.Str.{bytes_eq};
+ghost use Rattle.std.specs.Prelude.{◌≡◌, ◌==◌, ◌<◌, ◌++◌, ℕ, List, [], length, IfOk, OnOk};
 ghost use Rattle.tb_span.specs.declared.item.Item.{Item};
-ghost use Rattle.tb_tree.specs.View.{plain_of};
-ghost use Rattle.tb_tree.specs.Meets.{meets};
+ghost use Rattle.tb_tree.specs.NameTables.{AreApart, IsTable};
+ghost use Rattle.tb_tree.specs.Extents.{name_in};
 ghost use Rattle.tb_tree.specs.declared.node_test.Test.{Test};
-ghost use Rattle.tb_label.specs.Lists.{in_names, in_lists, one_if};
+ghost use Rattle.tb_label.specs.Lists.{items_at, in_names, in_lists, one_if};
+ghost use Rattle.tb_label.specs.Picked.{is_wanted, IsKnown};
 
 use std::alloc::{AllocError, Global};
 use std::collections::BTreeMap;
 use tb_span::Item;
-use tb_tree::{Bytes, Node, Test};
+use tb_tree::{Bytes, Extent, Kind, Test};
 
-/// The items of each name, by start.
+/// The items of each name, by start: the names have numbers, and each number a list.
 #[derive(Drop)]
 pub struct Names {
-    pub lists: BTreeMap<Bytes, Vec<Item>>,
+    pub numbers: BTreeMap<Bytes, usize>,
+    pub lists: Vec<Vec<Item>>,
 }
 
 impl Names {
-    pub fn new(alloc: Global) -> Names
-        ensures { (q : List ℕ) → in_names result q ≡ [] }
+    /// An empty list for each of the names, which are different.
+    pub fn new(alloc: Global, names: &[Bytes]) -> Result<Names, AllocError>
+        requires apart { AreApart names.now }
+        ensures table { IfOk result (λ made. IsTable names.now made.numbers) }
+        ensures empty { IfOk result (λ made. (k : ℕ) → items_at made k ≡ []) }
+        ensures count { IfOk result (λ made. length made.lists.items ≡ length names.now) }
     {
-        Names {
-            lists: BTreeMap::new(alloc),
+        let mut numbers = BTreeMap::new(alloc);
+        let mut lists = Vec::new(alloc);
+        'names: for (number, name) in names.iter().enumerate() {
+            numbers.insert(name.copy(alloc)?, number)?;
+            lists.push(Vec::new(alloc))?;
         }
+        Ok(Names { numbers, lists })
     }
 
-    /// Adds an item of the name. The name is copied where it is new.
-    pub fn push(&mut self, alloc: Global, name: &Bytes, item: &Item) -> Result<(), AllocError>
-        ensures { OnOk result ((q : List ℕ) →
-            in_names self.new q ≡ in_names self.old q ++ one_if (bytes_eq q name.now) item.now) }
+    /// Adds an item of the name with that number.
+    pub fn push(&mut self, number: u32, item: &Item) -> Result<(), AllocError>
+        requires known { number < length self.old.lists.items }
+        ensures pushed { OnOk result ((k : ℕ) → items_at self.new k ≡ items_at self.old k ++ one_if (k == number) item.now) }
+        ensures numbers { OnOk result (self.new.numbers ≡ self.old.numbers) }
+        ensures count { OnOk result (length self.new.lists.items ≡ length self.old.lists.items) }
     {
-        if let Some(list) = self.lists.get_mut(name) {
-            list.push(*item)?;
-            return Ok(());
-        }
-        let mut list = Vec::new(alloc);
-        list.push(*item)?;
-        let name = name.copy(alloc)?;
-        self.lists.insert(name, list)?;
+        self.lists[number as usize].push(*item)?;
         Ok(())
     }
 
     pub fn of(&self, name: &Bytes) -> &[Item]
         ensures { result.now ≡ in_names self.now name.now }
     {
-        match self.lists.get(name) {
+        match self.numbers.get(name) {
+            Some(number) => self.at(*number),
+            None => &[],
+        }
+    }
+
+    fn at(&self, number: usize) -> &[Item]
+        ensures { result.now ≡ items_at self.now number }
+    {
+        match self.lists.get(number) {
             Some(list) => list.as_slice(),
             None => &[],
         }
@@ -59,39 +72,52 @@ impl Names {
 pub struct Lists {
     pub elements: Names,
     pub all_elements: Vec<Item>,
-    pub attrs: Names,
-    pub all_attrs: Vec<Item>,
+    pub attributes: Names,
+    pub all_attributes: Vec<Item>,
     pub texts: Vec<Item>,
 }
 
 impl Lists {
-    pub fn new(alloc: Global) -> Lists
-        ensures { (t : Test) → in_lists result t ≡ [] }
+    /// Empty lists, for these names of elements and of attributes.
+    pub fn new(alloc: Global, elements: &[Bytes], attributes: &[Bytes]) -> Result<Lists, AllocError>
+        requires elements { AreApart elements.now }
+        requires attributes { AreApart attributes.now }
+        ensures tables { IfOk result (λ lists.
+            IsTable elements.now lists.elements.numbers × IsTable attributes.now lists.attributes.numbers) }
+        ensures counts { IfOk result (λ lists.
+            (length lists.elements.lists.items ≡ length elements.now) × (length lists.attributes.lists.items ≡ length attributes.now)) }
+        ensures empty { IfOk result (λ lists. (t : Test) → in_lists lists t ≡ []) }
     {
-        Lists {
-            elements: Names::new(alloc),
+        Ok(Lists {
+            elements: Names::new(alloc, elements)?,
             all_elements: Vec::new(alloc),
-            attrs: Names::new(alloc),
-            all_attrs: Vec::new(alloc),
+            attributes: Names::new(alloc, attributes)?,
+            all_attributes: Vec::new(alloc),
             texts: Vec::new(alloc),
-        }
+        })
     }
 
     /// Adds a node's item to the lists of the tests that it meets.
-    pub fn add(&mut self, alloc: Global, node: &Node, item: &Item) -> Result<(), AllocError>
-        ensures { OnOk result ((t : Test) →
-            in_lists self.new t ≡ in_lists self.old t ++ one_if (meets t (plain_of node.now)) item.now) }
+    pub fn add(&mut self, extent: &Extent, item: &Item) -> Result<(), AllocError>
+        requires known { IsKnown (length self.old.elements.lists.items) (length self.old.attributes.lists.items) extent.now.kind extent.now.name }
+        ensures added { OnOk result ((elements attributes : List (List ℕ)) → IsTable elements self.old.elements.numbers → IsTable attributes self.old.attributes.numbers
+            → length self.old.elements.lists.items ≡ length elements → length self.old.attributes.lists.items ≡ length attributes
+            → (t : Test) → in_lists self.new t ≡ in_lists self.old t
+            ++ one_if (is_wanted t extent.now.kind (name_in elements attributes extent.now.kind extent.now.name)) item.now) }
+        ensures numbers { OnOk result ((self.new.elements.numbers ≡ self.old.elements.numbers) × (self.new.attributes.numbers ≡ self.old.attributes.numbers)) }
+        ensures counts { OnOk result ((length self.new.elements.lists.items ≡ length self.old.elements.lists.items)
+            × (length self.new.attributes.lists.items ≡ length self.old.attributes.lists.items)) }
     {
-        match node {
-            Node::Elem { name, .. } => {
-                self.elements.push(alloc, name, item)?;
+        match extent.kind {
+            Kind::Element => {
+                self.elements.push(extent.name, item)?;
                 self.all_elements.push(*item)?;
             }
-            Node::Attr { name, .. } => {
-                self.attrs.push(alloc, name, item)?;
-                self.all_attrs.push(*item)?;
+            Kind::Attribute => {
+                self.attributes.push(extent.name, item)?;
+                self.all_attributes.push(*item)?;
             }
-            Node::Text { .. } => {
+            Kind::Text => {
                 self.texts.push(*item)?;
             }
         }
@@ -105,8 +131,8 @@ impl Lists {
         match test {
             Test::Name(name) => self.elements.of(name),
             Test::AnyElement => self.all_elements.as_slice(),
-            Test::AttrName(name) => self.attrs.of(name),
-            Test::AnyAttr => self.all_attrs.as_slice(),
+            Test::AttrName(name) => self.attributes.of(name),
+            Test::AnyAttr => self.all_attributes.as_slice(),
             Test::AnyText => self.texts.as_slice(),
         }
     }

@@ -11,7 +11,16 @@ pub mod Levels
 pub mod Places
 pub mod Numbers
 pub mod Meets
+pub mod Nodes
 pub mod Value
 pub mod Printed
 pub mod Documents
 pub mod Rows
+pub mod Escapes
+pub mod Escaped
+pub mod Written
+pub mod Making
+pub mod NameTables
+pub mod Extents
+pub mod Drafts
+pub mod FlatTrees

@@ -5,21 +5,33 @@
 #![tactic(auto)]
 
 mod against;
+mod built;
 mod bytes;
+mod draft;
+mod escaped;
+mod extent;
 mod items;
 mod line;
+mod names;
 mod node;
 mod node_test;
+mod noting;
+mod printer;
 mod shape;
 mod tree;
+mod unescaped;
 mod values;
 
 pub use against::Against;
 pub use bytes::Bytes;
+pub use draft::Draft;
+pub use extent::{Extent, Kind};
 pub use items::Items;
 pub use line::next_line;
 pub use node::{Kids, Node};
 pub use node_test::Test;
+pub use printer::write_nodes;
 pub use shape::{Shape, ShapeAttr, ShapeContent, ShapeElem, ShapePart};
 pub use tree::Tree;
+pub use unescaped::push_unescaped;
 pub use values::value;

@@ -64,7 +64,8 @@ fn by_recursion(
     let Some(tree) = document(alloc, lines)? else {
         return String::from_str(alloc, NO_DOCUMENT);
     };
-    let found = plain::matches(alloc, tree.root(), first, second)?;
+    let root = tree.root(alloc)?;
+    let found = plain::matches(alloc, &root, first, second)?;
     shown(alloc, &found)
 }
 

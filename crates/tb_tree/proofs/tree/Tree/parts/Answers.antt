@@ -1,0 +1,11 @@
+-- The extents are those of the root.
+use Rattle.std.proofs.Common.{List, ℕ, ◌≡◌, ◌++◌, sym, subst}
+use Rattle.tb_tree.specs.View.{plain_of}
+use Rattle.tb_tree.specs.FlatTrees.{IsPlaced}
+use Rattle.tb_tree.specs.declared.extent.Extent as code
+use Rattle.tb_tree.proofs.BackLaws.{opened, placed-moved}
+use Rattle.tb_tree.proofs.tree.Tree.parts.Goals as goal
+
+pub returns : goal.returns
+returns c =
+    placed-moved _ _ _ _ _ _ _ _ (opened _ _ _ _ _ _ c.self.invariant c.self.view_is) c.as_slice.ensures.value c.as_slice-2.ensures.value c.as_slice-3.ensures.value

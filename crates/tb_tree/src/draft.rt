@@ -1,0 +1,230 @@
+//! A document that is being made: its lines are appended, and each node's extent is noted.
+
+ghost use Rattle.std.specs.Prelude.{◌≡◌, ◌≤◌, ◌+◌, ◌*◌, true, false, not, [], None, length, OnOk, IfOk};
+ghost use Rattle.std.specs.Option.{option_map};
+ghost use Rattle.tb_tree.specs.Making.{Made, nothing_made, is_innermost, innermost_name, has_begun, with_attribute, with_element, with_more_text, with_text_ended, with_element_ended};
+ghost use Rattle.tb_tree.specs.Sound.{is_empty_list};
+ghost use Rattle.tb_tree.specs.Drafts.{is_none, Shows, HasRoom, IsInside, IsDone};
+ghost use Rattle.tb_tree.specs.Plain.{Plain};
+ghost use Rattle.tb_tree.specs.View.{plain_of};
+
+use crate::names::Names;
+use crate::noting::{begin_at, end_at, keep_place, lengthen_at};
+use crate::printer::{lengthen_data, push_attribute_told, push_data_told, push_named};
+use crate::{Extent, Kind, Tree};
+use std::alloc::{AllocError, Global};
+
+/// What has been made of a document so far.
+#[derive(Drop)]
+pub struct Draft {
+    alloc: Global,
+    /// The lines of what has begun, and of the attributes that wait.
+    text: Vec<u8>,
+    extents: Vec<Extent>,
+    /// Where the extents of the open elements stand, the innermost last.
+    stack: Vec<u32>,
+    elements: Names,
+    attributes: Names,
+    /// The last line is of a text that goes on.
+    is_going: bool,
+    /// Attributes wait for their element, whose extent is kept at `kept`.
+    is_waiting: bool,
+    kept: u32,
+    has_begun: bool,
+}
+
+impl Draft {
+    pub fn new(alloc: Global) -> Result<Draft, AllocError>
+        ensures { IfOk result (λ draft. Shows draft nothing_made) }
+    {
+        Ok(Draft {
+            alloc,
+            text: Vec::new(alloc),
+            extents: Vec::new(alloc),
+            stack: Vec::new(alloc),
+            elements: Names::new(alloc)?,
+            attributes: Names::new(alloc)?,
+            is_going: false,
+            is_waiting: false,
+            kept: 0,
+            has_begun: false,
+        })
+    }
+
+    /// Whether attributes wait for their element.
+    pub fn is_waiting(&self) -> bool
+        ensures { (m : Made) → Shows self.now m → result ≡ not (is_none m.waiting) }
+    {
+        self.is_waiting
+    }
+
+    /// How many elements are open.
+    pub fn depth(&self) -> usize
+        ensures { (m : Made) → Shows self.now m → result ≡ length m.frames }
+    {
+        self.stack.len()
+    }
+
+    /// Whether an element has begun.
+    pub fn has_begun(&self) -> bool
+        ensures { (m : Made) → Shows self.now m → result ≡ has_begun m.frames m.root }
+    {
+        self.has_begun
+    }
+
+    /// One attribute more waits for its element.
+    pub fn attribute(&mut self, name: &[u8], value: &[u8]) -> Result<(), AllocError>
+        requires room { HasRoom self.old (9 + length name.now + 4 * length value.now) }
+        ensures shown { OnOk result ((m : Made) → Shows self.old m
+            → Shows self.new (with_attribute m name.now value.now)) }
+        ensures grown { OnOk result (length self.new.text.items ≤ length self.old.text.items + (9 + length name.now + 4 * length value.now)) }
+    {
+        let number = self.attributes.number(self.alloc, name)?;
+        let at = self.text.len() as u32;
+        let level = self.stack.len() as u16 + 1;
+        self.kept = keep_place(self.is_waiting, self.kept, at, level, &mut self.extents)?;
+        self.is_waiting = true;
+        let escaped = push_attribute_told(name, value, &mut self.text)?;
+        let extent = Extent {
+            from: at,
+            to: self.text.len() as u32,
+            last: self.extents.len() as u32 + 1,
+            name: number,
+            level: level + 1,
+            kind: Kind::Attribute,
+            escaped,
+        };
+        self.extents.push(extent)?;
+        Ok(())
+    }
+
+    /// An element begins, with the attributes that waited.
+    pub fn start(&mut self, name: &[u8]) -> Result<(), AllocError>
+        requires room { HasRoom self.old (2 + length name.now) }
+        ensures shown { OnOk result ((m : Made) → m.root ≡ None → Shows self.old m
+            → Shows self.new (with_element m name.now)) }
+        ensures grown { OnOk result (length self.new.text.items ≤ length self.old.text.items + (2 + length name.now)) }
+    {
+        let number = self.elements.number(self.alloc, name)?;
+        let at = self.text.len() as u32;
+        let level = self.stack.len() as u16 + 1;
+        let place = keep_place(self.is_waiting, self.kept, at, level, &mut self.extents)?;
+        begin_at(place, number, &mut self.extents);
+        push_named(b'(', name, &mut self.text)?;
+        self.stack.push(place)?;
+        self.is_going = false;
+        self.is_waiting = false;
+        self.has_begun = true;
+        Ok(())
+    }
+
+    /// The text goes on, or begins.
+    pub fn more_text(&mut self, value: &[u8]) -> Result<(), AllocError>
+        requires room { HasRoom self.old (2 + 4 * length value.now) }
+        ensures shown { OnOk result ((m : Made) → m.waiting ≡ [] → IsInside m.frames value.now
+            → Shows self.old m → Shows self.new (with_more_text m value.now)) }
+        ensures grown { OnOk result (length self.new.text.items ≤ length self.old.text.items + (2 + 4 * length value.now)) }
+    {
+        if value.is_empty() {
+            return Ok(());
+        }
+        if self.is_going {
+            return self.lengthen(value);
+        }
+        self.begin_text(value)
+    }
+
+    fn lengthen(&mut self, value: &[u8]) -> Result<(), AllocError>
+        requires room { HasRoom self.old (2 + 4 * length value.now) }
+        requires some { is_empty_list value.now ≡ false }
+        ensures shown { OnOk result ((m : Made) → m.waiting ≡ [] → IsInside m.frames value.now → self.old.is_going ≡ true
+            → Shows self.old m → Shows self.new (with_more_text m value.now)) }
+        ensures grown { OnOk result (length self.new.text.items ≤ length self.old.text.items + (2 + 4 * length value.now)) }
+    {
+        let escaped = lengthen_data(value, &mut self.text)?;
+        let last = self.extents.len().saturating_sub(1);
+        lengthen_at(last, self.text.len() as u32, escaped, &mut self.extents);
+        Ok(())
+    }
+
+    fn begin_text(&mut self, value: &[u8]) -> Result<(), AllocError>
+        requires room { HasRoom self.old (2 + 4 * length value.now) }
+        requires some { is_empty_list value.now ≡ false }
+        ensures shown { OnOk result ((m : Made) → m.waiting ≡ [] → IsInside m.frames value.now → self.old.is_going ≡ false
+            → Shows self.old m → Shows self.new (with_more_text m value.now)) }
+        ensures grown { OnOk result (length self.new.text.items ≤ length self.old.text.items + (2 + 4 * length value.now)) }
+    {
+        let from = self.text.len() as u32;
+        let escaped = push_data_told(value, &mut self.text)?;
+        let extent = Extent {
+            from,
+            to: self.text.len() as u32,
+            last: self.extents.len() as u32 + 1,
+            name: 0,
+            level: self.stack.len() as u16 + 1,
+            kind: Kind::Text,
+            escaped,
+        };
+        self.extents.push(extent)?;
+        self.is_going = true;
+        Ok(())
+    }
+
+    /// Whether the innermost element has the name.
+    pub fn is_innermost(&self, name: &[u8]) -> bool
+        ensures { (m : Made) → Shows self.now m → result ≡ is_innermost name.now m.frames }
+    {
+        match self.innermost() {
+            Some(open) => open == name,
+            None => false,
+        }
+    }
+
+    /// The name of the innermost element.
+    fn innermost(&self) -> Option<&[u8]>
+        ensures { (m : Made) → Shows self.now m → option_map (λ name. name.now) result ≡ innermost_name m.frames }
+    {
+        let place = *self.stack.last()?;
+        let extent = self.extents.get(place as usize)?;
+        self.elements.find(extent.name)
+    }
+
+    /// The innermost element ends, which has the name.
+    pub fn end(&mut self, name: &[u8]) -> Result<(), AllocError>
+        requires room { HasRoom self.old (2 + length name.now) }
+        ensures shown { OnOk result ((m : Made) → m.waiting ≡ [] → is_innermost name.now m.frames ≡ true
+            → Shows self.old m → Shows self.new (with_element_ended (with_text_ended m))) }
+        ensures grown { OnOk result (length self.new.text.items ≤ length self.old.text.items + (2 + length name.now)) }
+    {
+        let Some(place) = self.stack.pop() else {
+            return Ok(());
+        };
+        push_named(b')', name, &mut self.text)?;
+        let last = self.extents.len() as u32;
+        end_at(place, self.text.len() as u32, last, &mut self.extents);
+        self.is_going = false;
+        Ok(())
+    }
+
+    /// The document, where its root has ended.
+    pub fn finish(self) -> Tree
+        requires done { (m : Made) × (root : Plain) × Shows self m × IsDone m root }
+        ensures { (m : Made) → (root : Plain) → Shows self m → IsDone m root → plain_of result ≡ root }
+    {
+        let Draft {
+            mut text,
+            mut extents,
+            elements,
+            attributes,
+            ..
+        } = self;
+        text.shrink_to_fit();
+        extents.shrink_to_fit();
+        Tree::new(
+            text,
+            extents,
+            elements.into_table(),
+            attributes.into_table(),
+        )
+    }
+}

@@ -1,0 +1,77 @@
+//! Values and data as they print, with their escapes.
+
+ghost use Rattle.std.specs.Prelude.{◌≡◌, ◌++◌, false, IfOk, OnOk};
+ghost use Rattle.std.specs.Option.{option_map};
+ghost use Rattle.tb_tree.specs.Printed.{octal, escaped, escaped_byte};
+ghost use Rattle.tb_tree.specs.Written.{is_plain, has_escape, IsGrown, NextEscape};
+
+use std::alloc::AllocError;
+
+/// Appends the bytes, and says whether one of them was escaped.
+pub fn push_told(value: &[u8], out: &mut Vec<u8>) -> Result<bool, AllocError>
+    ensures told { IfOk result (λ told. told ≡ has_escape value.now) }
+    ensures escaped { OnOk result (out.new.items ≡ out.old.items ++ escaped value.now) }
+{
+    let Some(_cut) = next_escape(value) else {
+        out.extend_from_slice(value)?;
+        return Ok(false);
+    };
+    push_escaped(value, out)?;
+    Ok(true)
+}
+
+/// Appends the bytes, runs of plain ones at once.
+pub fn push_escaped(value: &[u8], out: &mut Vec<u8>) -> Result<(), AllocError>
+    ensures escaped { OnOk result (out.new.items ≡ out.old.items ++ escaped value.now) }
+    ensures front { IsGrown out.old.items out.new.items }
+{
+    let mut rest = value;
+    'runs: while let Some((run, byte, behind)) = next_escape(rest) {
+        out.extend_from_slice(run)?;
+        push_escape(byte, out)?;
+        rest = behind;
+    }
+    out.extend_from_slice(rest)?;
+    Ok(())
+}
+
+/// The plain bytes at the front, the first byte that isn't plain, and what follows it.
+fn next_escape(bytes: &[u8]) -> Option<(&[u8], u8, &[u8])>
+    ensures { NextEscape bytes.now (option_map (λ cut. (cut.0.now, cut.1, cut.2.now)) result) }
+{
+    for (at, byte) in bytes.iter().enumerate() {
+        if !is_plain(*byte) {
+            return Some((&bytes[..at], *byte, &bytes[at + 1..]));
+        }
+    }
+    None
+}
+
+fn is_plain(byte: u8) -> bool
+    ensures { result ≡ is_plain byte }
+{
+    byte >= 32 && byte != 127 && byte != b'\\'
+}
+
+fn push_escape(byte: u8, out: &mut Vec<u8>) -> Result<(), AllocError>
+    requires { is_plain byte ≡ false }
+    ensures escaped { OnOk result (out.new.items ≡ out.old.items ++ escaped_byte byte) }
+    ensures front { IsGrown out.old.items out.new.items }
+{
+    match byte {
+        b'\\' => out.extend_from_slice(b"\\\\"),
+        b'\n' => out.extend_from_slice(b"\\n"),
+        _ => out.extend_from_slice(&octal(byte)),
+    }
+}
+
+fn octal(byte: u8) -> [u8; 4]
+    ensures { result ≡ octal byte }
+{
+    [
+        b'\\',
+        b'0' + byte / 64,
+        b'0' + byte / 8 % 8,
+        b'0' + byte % 8,
+    ]
+}
