@@ -20,7 +20,7 @@ use tb_esis::read_tree;
 use tb_label::Store;
 use tb_span::{Axis, Pair};
 use tb_stackjoin::whole_join;
-use tb_tree::{Bytes, Test, Tree, value};
+use tb_tree::{Bytes, Kind, Test, Tree};
 
 mod script;
 
@@ -79,11 +79,33 @@ fn time_read(rt: &HostRuntime, lines: Vec<u8>) -> io::Result<Option<Tree>>
 }
 
 /// Says what the texts are.
-fn tell_text(rt: &HostRuntime, tree: &Tree) -> io::Result<()> {
-    let root = tree.root(rt.alloc())?;
-    let text = value(rt.alloc(), &root)?;
-    println!(rt; "text {}", text.as_slice().len())?;
-    println!(rt; "text-sum {}", sum(text.as_slice()))
+fn tell_text(rt: &HostRuntime, tree: &Tree) -> io::Result<()>
+    requires few { count (plain_of tree.now) < 2 ^ 30 }
+{
+    let mut text = Vec::new(rt.alloc());
+    'nodes: for number in 1..tree.count() as u32 + 1 {
+        if tree.kind(number) == Kind::Text {
+            push_value(rt.alloc(), tree, number, &mut text)?;
+        }
+    }
+    println!(rt; "text {}", text.len())?;
+    println!(rt; "text-sum {}", sum(&text))
+}
+
+/// Appends the value of a node.
+fn push_value(
+    alloc: Global,
+    tree: &Tree,
+    number: u32,
+    text: &mut Vec<u8>,
+) -> Result<(), AllocError>
+    requires some { 1 ≤ number }
+    requires within { number ≤ count (plain_of tree.now) }
+{
+    if let Some(value) = tree.lent_value(number) {
+        return text.extend_from_slice(value);
+    }
+    text.extend_from_slice(tree.value(alloc, number)?.as_slice())
 }
 
 /// Labels the document.

@@ -1,23 +1,21 @@
 -- An attribute more waits in a draft.
-use Rattle.std.proofs.Common.{◌≡◌, ℕ, ◌+◌, ◌*◌, ◌≤◌, Bool, true, false, cond, not, ◌&&◌, List, [], ◌∷◌, ◌++◌, length, map, None, refl, sym, ap, ap₂, ◌∙◌, subst, arith, append_assoc, append-nil, length-append}
-use Rattle.std.specs.List.{list_all}
-use Rattle.std.proofs.lemmas.Bool.{false≢true, and_from}
+use Rattle.std.proofs.Common.{◌≡◌, ℕ, ◌+◌, Bool, true, cond, not, ◌&&◌, List, [], ◌∷◌, ◌++◌, length, map, refl, sym, ap, ap₂, ◌∙◌, arith, append_assoc, append-nil, length-append}
 use Rattle.std.proofs.lemmas.List.{map-append, length-map}
 use Rattle.std.proofs.lemmas.List.Folds.{list_all-append}
 use Rattle.tb_tree.specs.Plain.{Plain, attr, plains, one}
 use Rattle.tb_tree.specs.Numbers.{counts}
 use Rattle.tb_tree.specs.Sound.{is_attribute}
 use Rattle.tb_tree.specs.Printed.{attribute_lines, attribute_line}
-use Rattle.tb_tree.specs.Making.{Frame, Made, with_attribute}
+use Rattle.tb_tree.specs.Making.{Made, with_attribute}
 use Rattle.tb_tree.specs.NameTables.{IsMore, IsNumber}
 use Rattle.tb_tree.specs.Written.{has_escape}
-use Rattle.tb_tree.specs.Extents.{Extent, attribute_extent, extents, named}
+use Rattle.tb_tree.specs.Extents.{attribute_extent, extents, named}
 use Rattle.tb_tree.specs.declared.extent.Extent as code
 use Rattle.tb_tree.specs.declared.extent.Kind.TheVariants as kind
 use Rattle.tb_tree.specs.declared.draft.Draft.{Draft}
 use Rattle.tb_tree.specs.Drafts.{begun_text, begun_extents, going, kept_extent, waiting_extents, shown_text, shown_extents, is_none, place_if, Shows}
 use Rattle.tb_tree.proofs.NameLaws.{more-length}
-use Rattle.tb_tree.proofs.JoinedLaws.{plains-append, attribute_lines-joined, extents-joined, same_extents, length-extents}
+use Rattle.tb_tree.proofs.JoinedLaws.{plains-append, attribute_lines-joined, extents-joined, length-extents}
 use Rattle.tb_tree.proofs.KeptLaws.{same_extent, more-attributes, number-stays, kept-extents, kept-place, stack-length}
 
 waiting-lines : (ws : List Plain) (name value : List ℕ) → attribute_lines (plains (ws ++ attr name value ∷ [])) ≡ attribute_lines (plains ws) ++ attribute_line name value

@@ -1,16 +1,15 @@
 -- A document's lines and extents tell its tree.
-use Rattle.std.proofs.Common.{◌≡◌, ℕ, zero, ◌+◌, ◌-◌, ◌<◌, ◌≤◌, Bool, true, false, cond, nat_lt, ◌==◌, codes, IsTrue, List, [], ◌∷◌, ◌++◌, length, map, take, drop, Some, refl, sym, ap, ap₂, ◌∙◌, subst, arith, append_assoc, append-nil, length-append}
+use Rattle.std.proofs.Common.{◌≡◌, ℕ, ◌+◌, ◌-◌, ◌<◌, codes, IsTrue, List, [], ◌∷◌, ◌++◌, length, map, take, drop, refl, sym, ap, ap₂, ◌∙◌, subst, arith, append_assoc, append-nil, length-append}
 use Rattle.std.proofs.lemmas.Bool.{false≢true, lt-ltb, le-ltb, eq-eqb, ne_eqb}
 use Rattle.std.proofs.lemmas.List.{take_all, length-map}
 use Rattle.tb_tree.specs.Plain.{Plain, elem, attr, text, Plains, no_kids, kid, one, joined_kids, is_element}
 use Rattle.tb_tree.specs.Numbers.{counts, count}
 use Rattle.tb_tree.specs.Printed.{printed_node, attribute_lines, content_lines, attribute_line, data_line, start_line, end_line, escaped}
-use Rattle.tb_tree.specs.Extents.{Extent, element_extent, attribute_extent, text_extent, extents, extents_of, named}
+use Rattle.tb_tree.specs.Extents.{Extent, attribute_extent, text_extent, extents, extents_of, named}
 use Rattle.tb_tree.specs.Escapes.{unescaped}
-use Rattle.tb_tree.specs.FlatTrees.{given, value_behind, node_by, kids_at, first_of, root_read, node_of, nodes_from, Stands, AreNodes, IsDocument, IsPlaced}
+use Rattle.tb_tree.specs.FlatTrees.{given, value_behind, kids_at, first_of, root_read, node_of, nodes_from, Stands, AreNodes, IsDocument, IsPlaced}
 use Rattle.tb_tree.specs.View.{plain_of, plains_of}
 use Rattle.tb_tree.specs.declared.extent.Extent as code
-use Rattle.tb_tree.specs.declared.extent.Kind.TheVariants as kind
 use Rattle.tb_tree.specs.declared.node.Node.{Node}
 use Rattle.tb_tree.proofs.Views.{plain_of-Elem, plain_of-Attr, plain_of-Text}
 use Rattle.tb_tree.proofs.PrintedBytes.{unescaped-escaped}

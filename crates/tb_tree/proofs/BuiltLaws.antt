@@ -1,5 +1,5 @@
 -- Nodes of a document, one after the other, and what is left.
-use Rattle.std.proofs.Common.{◌≡◌, ℕ, false, zero, suc, ◌+◌, ◌-◌, ◌<◌, ◌≤◌, ◌^◌, min, List, [], ◌∷◌, ◌++◌, length, map, take, drop, get_or, refl, sym, ap, ap₂, ◌∙◌, subst, arith, append_assoc, append-nil, length-append}
+use Rattle.std.proofs.Common.{◌≡◌, ℕ, false, zero, suc, ◌+◌, ◌-◌, ◌<◌, ◌≤◌, ◌^◌, min, List, [], ◌∷◌, ◌++◌, length, map, take, drop, get_or, refl, sym, ap, ap₂, ◌∙◌, subst, arith}
 use Rattle.std.proofs.lemmas.List.{take_at, drop_at, take-map, map-append}
 use Rattle.tb_tree.specs.Plain.{Plain, elem, attr, text, Plains, no_kids, kid, one, plains, joined_kids}
 use Rattle.tb_tree.specs.Numbers.{counts}
@@ -23,7 +23,7 @@ pub record IsFirst (bytes : List ℕ) (first : Extent) (behind : List Extent) (n
   pub node_is : kid (node_by bytes first kids first.kind) others ≡ ks
   pub others_are : AreNodes bytes (drop (first.last - number) behind) (first.last + 1) level others
 
-same_cons : (x y : Extent) (xs ys : List Extent) → ◌≡◌ {A = List Extent} (x ∷ xs) (y ∷ ys) → (x ≡ y) × (xs ≡ ys)
+pub same_cons : (x y : Extent) (xs ys : List Extent) → ◌≡◌ {A = List Extent} (x ∷ xs) (y ∷ ys) → (x ≡ y) × (xs ≡ ys)
 same_cons x y xs ys e = (cc, cc)
 
 none_first : (x : Extent) (xs : List Extent) → ◌≡◌ {A = List Extent} (x ∷ xs) [] → ⊥
@@ -132,7 +132,7 @@ pub kids-joined : (xs : List Plain) (x : Plain) (rest : Plains) → joined_kids 
 kids-joined [] x rest = refl
 kids-joined (y ∷ xs) x rest = ap (kid y) (kids-joined xs x rest)
 
-drop-map : (f : code.Extent → Extent) (n : ℕ) (xs : List code.Extent) → map f (drop n xs) ≡ drop n (map f xs)
+pub drop-map : (f : code.Extent → Extent) (n : ℕ) (xs : List code.Extent) → map f (drop n xs) ≡ drop n (map f xs)
 drop-map f zero xs = refl
 drop-map f (suc n) [] = refl
 drop-map f (suc n) (x ∷ xs) = drop-map f n xs

@@ -1,9 +1,8 @@
 -- The innermost element of a draft ends.
-use Rattle.std.proofs.Common.{◌≡◌, ℕ, ◌+◌, ◌-◌, ◌<◌, ◌≤◌, Bool, true, false, not, List, [], ◌∷◌, ◌++◌, length, map, set, take, drop, get_or, Option, Some, None, refl, sym, ap, ap₂, ◌∙◌, subst, arith, append_assoc, append-nil, length-append, take-append-drop}
+use Rattle.std.proofs.Common.{◌≡◌, ℕ, ◌+◌, ◌-◌, ◌<◌, true, false, not, List, [], ◌∷◌, ◌++◌, length, map, set, take, get_or, Option, Some, refl, sym, ap, ap₂, ◌∙◌, subst, arith, append_assoc, append-nil, length-append, take-append-drop}
 use Rattle.std.proofs.lemmas.Bool.{false≢true}
 use Rattle.std.proofs.lemmas.List.{length-map, same_from_push, get_or-map, get_or_at, drop_more, drop_all}
 use Rattle.std.proofs.lemmas.Slice.Eq.{bytes_eq-Decides}
-use Rattle.std.specs.Str.{bytes_eq}
 use Rattle.tb_tree.specs.Plain.{Plain, elem, plains, one}
 use Rattle.tb_tree.specs.Numbers.{counts}
 use Rattle.tb_tree.specs.Printed.{attribute_lines, content_lines, start_line, end_line, printed_node}
@@ -12,8 +11,8 @@ use Rattle.tb_tree.specs.Extents.{Extent, element_extent, extents, name_in, name
 use Rattle.tb_tree.specs.declared.extent.Extent as code
 use Rattle.tb_tree.specs.declared.extent.Kind.TheVariants as kind
 use Rattle.tb_tree.specs.declared.draft.Draft.{Draft}
-use Rattle.tb_tree.specs.Drafts.{begun_text, begun_extents, open_extents, root_text, root_extents, open_numbers, going, waiting_extents, shown_text, shown_extents, is_none, ended_extent, IsSingle, Shows}
-use Rattle.tb_tree.proofs.JoinedLaws.{length-extents, same_extents}
+use Rattle.tb_tree.specs.Drafts.{begun_text, begun_extents, root_text, root_extents, open_numbers, going, waiting_extents, shown_extents, is_none, ended_extent, IsSingle, Shows}
+use Rattle.tb_tree.proofs.JoinedLaws.{length-extents}
 use Rattle.tb_tree.proofs.PutLaws.{put-none, put-text, put-extents, put-numbers}
 use Rattle.tb_tree.specs.NameTables.{IsNumber}
 use Rattle.tb_tree.proofs.TextLaws.{text-none, extents-none}

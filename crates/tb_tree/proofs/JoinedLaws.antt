@@ -1,12 +1,12 @@
 -- Nodes put behind other nodes: their lines and their extents.
-use Rattle.std.proofs.Common.{◌≡◌, ℕ, ◌+◌, ◌≤◌, Bool, true, false, List, [], ◌∷◌, ◌++◌, length, refl, sym, ap, ap₂, ◌∙◌, arith, append_assoc, append-nil, length-append}
+use Rattle.std.proofs.Common.{◌≡◌, ℕ, ◌+◌, ◌≤◌, true, false, List, [], ◌∷◌, ◌++◌, length, refl, sym, ap, ◌∙◌, arith, append_assoc, append-nil, length-append}
 use Rattle.std.specs.List.{list_all}
 use Rattle.std.proofs.lemmas.Bool.{false≢true}
 use Rattle.tb_tree.specs.Plain.{Plain, elem, attr, text, Plains, no_kids, kid, one, plains, joined_kids}
 use Rattle.tb_tree.specs.Numbers.{counts}
 use Rattle.tb_tree.specs.Sound.{is_attribute}
-use Rattle.tb_tree.specs.Printed.{printed_node, attribute_lines, content_lines, attribute_line, data_line, start_line, escaped}
-use Rattle.tb_tree.specs.Extents.{Extent, element_extent, attribute_extent, text_extent, extents}
+use Rattle.tb_tree.specs.Printed.{printed_node, attribute_lines, content_lines, attribute_line, data_line, start_line}
+use Rattle.tb_tree.specs.Extents.{element_extent, attribute_extent, text_extent, extents}
 
 pub plains-append : (xs ys : List Plain) → plains (xs ++ ys) ≡ joined_kids (plains xs) (plains ys)
 plains-append [] ys = refl

@@ -1,20 +1,18 @@
 -- What a draft's extents are where a place is kept, and where one of them is written anew.
-use Rattle.std.proofs.Common.{◌≡◌, ℕ, ◌+◌, ◌<◌, ◌≤◌, Bool, true, false, cond, not, List, [], ◌∷◌, ◌++◌, length, map, set, get_or, Option, refl, sym, ap, ap₂, ◌∙◌, subst, arith, append_assoc, append-nil, length-append}
+use Rattle.std.proofs.Common.{◌≡◌, ℕ, ◌+◌, ◌<◌, Bool, true, false, cond, not, List, [], ◌∷◌, ◌++◌, length, map, set, get_or, refl, sym, ap, ap₂, ◌∙◌, subst, arith, append_assoc, append-nil, length-append}
 use Rattle.std.proofs.lemmas.Bool.{false≢true}
 use Rattle.std.proofs.lemmas.List.{map-append, map-set, get_or-map, length-map, set_at, get_or_at, get_or_append_left}
-use Rattle.tb_tree.specs.Plain.{Plain, Plains, plains}
-use Rattle.tb_tree.specs.Numbers.{counts}
+use Rattle.tb_tree.specs.Plain.{Plain, plains}
 use Rattle.tb_tree.specs.Printed.{attribute_lines}
-use Rattle.tb_tree.specs.Making.{Frame, Made}
+use Rattle.tb_tree.specs.Making.{Made}
 use Rattle.tb_tree.specs.NameTables.{IsMore, same, one_more, IsNumber}
 use Rattle.tb_tree.specs.Extents.{Extent, extents, named}
 use Rattle.tb_tree.specs.declared.extent.Extent as code
 use Rattle.tb_tree.specs.declared.extent.Kind.{Kind}
 use Rattle.tb_tree.specs.declared.extent.Kind.TheVariants as kind
 use Rattle.tb_tree.specs.declared.draft.Draft.{Draft}
-use Rattle.tb_tree.specs.Drafts.{begun_text, begun_extents, going, kept_extent, waiting_extents, shown_text, shown_extents, is_none, place_if, Shows}
+use Rattle.tb_tree.specs.Drafts.{begun_text, begun_extents, going, kept_extent, waiting_extents, is_none, place_if, Shows}
 use Rattle.tb_tree.proofs.PutLaws.{length-open}
-use Rattle.tb_tree.proofs.JoinedLaws.{length-extents}
 
 -- One extent is written anew, as g does in the program and h with names.
 pub patched : (f : code.Extent → Extent) (g : code.Extent → code.Extent) (h : Extent → Extent) (xs : List code.Extent) (front back : List Extent) (here : Extent) (place : ℕ) (e : code.Extent)

@@ -1,6 +1,6 @@
 -- How long lines are.
 use Rattle.std.proofs.Common.{◌≡◌, ℕ, ◌+◌, ◌*◌, ◌≤◌, Bool, true, false, ◌||◌, nat_lt, ◌==◌, codes, List, [], ◌∷◌, ◌++◌, length, refl, ap, arith, length-append}
-use Rattle.tb_tree.specs.Printed.{octal, escaped_byte, escaped, attribute_line, data_line}
+use Rattle.tb_tree.specs.Printed.{escaped_byte, escaped, attribute_line, data_line}
 
 byte-length : (b : ℕ) → length (escaped_byte b) ≤ 4
 byte-length b = by_case (b == 92) (b == 10) (nat_lt b 32 || b == 127) refl refl refl

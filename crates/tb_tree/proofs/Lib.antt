@@ -20,4 +20,5 @@ pub mod StandLaws
 pub mod BackLaws
 pub mod DoneLaws
 pub mod BuiltLaws
+pub mod NodeAtLaws
 pub mod WorkedRows

@@ -1,12 +1,12 @@
 -- A node put into the innermost open element prints behind all lines, and its extents stand behind all others.
-use Rattle.std.proofs.Common.{◌≡◌, ℕ, ◌+◌, ◌≤◌, Bool, true, false, List, [], ◌∷◌, ◌++◌, length, Option, Some, None, refl, sym, ap, ap₂, ◌∙◌, arith, append_assoc, append-nil, length-append}
-use Rattle.tb_tree.specs.Plain.{Plain, elem, attr, text, Plains, one, plains}
+use Rattle.std.proofs.Common.{◌≡◌, ℕ, ◌+◌, ◌≤◌, false, List, [], ◌∷◌, ◌++◌, length, Option, Some, None, refl, sym, ap, ap₂, ◌∙◌, arith, append_assoc, append-nil, length-append}
+use Rattle.tb_tree.specs.Plain.{Plain, elem, attr, text, one, plains}
 use Rattle.tb_tree.specs.Numbers.{counts}
 use Rattle.tb_tree.specs.Sound.{is_attribute}
 use Rattle.tb_tree.specs.Printed.{printed_node, attribute_lines, content_lines, start_line}
-use Rattle.tb_tree.specs.Making.{Frame, Made, put, text_of}
-use Rattle.tb_tree.specs.Extents.{Extent, element_extent, extents}
-use Rattle.tb_tree.specs.Drafts.{root_text, root_extents, begun_text, begun_extents, open_extents, open_numbers}
+use Rattle.tb_tree.specs.Making.{Frame, put}
+use Rattle.tb_tree.specs.Extents.{element_extent, extents}
+use Rattle.tb_tree.specs.Drafts.{root_text, root_extents, begun_text, begun_extents, open_numbers}
 use Rattle.tb_tree.proofs.JoinedLaws.{plains-append, attribute_lines-joined, content_lines-joined, extents-joined, same_extents, length-extents, lines-alone, content-alone, extents-alone, counts-fit}
 
 pub put-none : (fs : List Frame) → put [] fs ≡ fs

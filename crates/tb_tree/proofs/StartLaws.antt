@@ -1,5 +1,5 @@
 -- An element begins in a draft.
-use Rattle.std.proofs.Common.{◌≡◌, ℕ, ◌+◌, ◌≤◌, Bool, true, false, cond, List, [], ◌∷◌, ◌++◌, length, map, set, get_or, None, refl, sym, ap, ap₂, ◌∙◌, subst, arith, append_assoc, append-nil, length-append}
+use Rattle.std.proofs.Common.{◌≡◌, ℕ, ◌+◌, true, false, cond, List, [], ◌∷◌, ◌++◌, length, map, set, get_or, None, refl, sym, ap, ap₂, ◌∙◌, arith, append_assoc, append-nil, length-append}
 use Rattle.std.proofs.lemmas.Bool.{false≢true}
 use Rattle.std.specs.List.{list_all}
 use Rattle.tb_tree.specs.Plain.{plains}
@@ -11,11 +11,11 @@ use Rattle.tb_tree.specs.Extents.{Extent, element_extent, extents, named}
 use Rattle.tb_tree.specs.declared.extent.Extent as code
 use Rattle.tb_tree.specs.declared.extent.Kind.TheVariants as kind
 use Rattle.tb_tree.specs.declared.draft.Draft.{Draft}
-use Rattle.tb_tree.specs.Drafts.{begun_text, begun_extents, going, kept_extent, open_extents, waiting_extents, shown_text, shown_extents, open_numbers, is_none, place_if, begun_extent, Shows}
+use Rattle.tb_tree.specs.Drafts.{begun_text, begun_extents, going, open_extents, shown_text, shown_extents, place_if, begun_extent, Shows}
 use Rattle.tb_tree.proofs.NameLaws.{more-length}
 use Rattle.tb_tree.proofs.PutLaws.{put-none, put-numbers, length-put}
 use Rattle.tb_tree.proofs.JoinedLaws.{content-bare, extents-bare}
-use Rattle.tb_tree.proofs.KeptLaws.{patched, more-elements, number-stays, kept-extents, kept-place, stack-length}
+use Rattle.tb_tree.proofs.KeptLaws.{patched, more-elements, number-stays, kept-extents, kept-place}
 
 start-text : (m : Made) (name : List ℕ) → content_lines (plains m.waiting) ≡ [] → shown_text m ++ start_line name ≡ shown_text (with_element m name)
 start-text m name bare =

@@ -1,16 +1,16 @@
 -- A text begins in a draft, or goes on.
-use Rattle.std.proofs.Common.{◌≡◌, ℕ, ◌+◌, ◌-◌, ◌*◌, ◌≤◌, Bool, true, false, not, ◌&&◌, ◌||◌, List, [], ◌∷◌, ◌++◌, length, map, set, get_or, Option, refl, sym, ap, ap₂, ◌∙◌, subst, arith, append_assoc, append-nil, length-append}
+use Rattle.std.proofs.Common.{◌≡◌, ℕ, ◌+◌, ◌-◌, ◌≤◌, Bool, true, false, not, ◌&&◌, ◌||◌, List, [], ◌∷◌, ◌++◌, length, map, set, get_or, Option, refl, sym, ap, ap₂, ◌∙◌, arith, append_assoc, append-nil, length-append}
 use Rattle.std.specs.List.{list_all}
 use Rattle.std.proofs.lemmas.Bool.{false≢true}
 use Rattle.std.proofs.lemmas.List.{map-append, length-map}
 use Rattle.std.proofs.lemmas.List.Folds.{list_all-append}
 use Rattle.std.proofs.lemmas.Grind.{flat_map-append}
-use Rattle.tb_tree.specs.Plain.{Plain, text, plains, one}
+use Rattle.tb_tree.specs.Plain.{Plain, text, plains}
 use Rattle.tb_tree.specs.Sound.{is_empty_list}
 use Rattle.tb_tree.specs.Printed.{attribute_lines, data_line, escaped, escaped_byte}
 use Rattle.tb_tree.specs.Making.{Frame, Made, put, text_of, with_more_text}
 use Rattle.tb_tree.specs.Written.{has_escape, is_plain}
-use Rattle.tb_tree.specs.Extents.{Extent, text_extent, extents, named}
+use Rattle.tb_tree.specs.Extents.{Extent, text_extent, named}
 use Rattle.tb_tree.specs.declared.extent.Extent as code
 use Rattle.tb_tree.specs.declared.extent.Kind.TheVariants as kind
 use Rattle.tb_tree.specs.declared.draft.Draft.{Draft}

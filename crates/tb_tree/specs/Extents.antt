@@ -1,5 +1,5 @@
 -- Where the nodes of a document lie in its printed lines.
-use Rattle.std.specs.Prelude.{◌≡◌, ℕ, ◌+◌, ◌-◌, Bool, true, false, not, List, [], ◌∷◌, ◌++◌, length, take, drop, slice_index_or}
+use Rattle.std.specs.Prelude.{ℕ, ◌+◌, ◌-◌, Bool, false, List, [], ◌∷◌, ◌++◌, length, take, drop, slice_index_or}
 use Rattle.tb_tree.specs.Plain.{Plain, elem, attr, text, Plains, no_kids, kid, one}
 use Rattle.tb_tree.specs.Numbers.{counts}
 use Rattle.tb_tree.specs.Printed.{printed_node, attribute_lines, start_line, attribute_line, data_line}
@@ -17,6 +17,24 @@ pub record Extent : Type 0 where
   pub level : ℕ
   pub kind : Kind
   pub escaped : Bool
+
+-- which kind a node is of
+abbrev pub kind_of : Plain → Kind
+kind_of (elem name kids) = kind.Element
+kind_of (attr name value) = kind.Attribute
+kind_of (text value) = kind.Text
+
+-- the name of an element or an attribute; a text has none
+abbrev pub name_of : Plain → List ℕ
+name_of (elem name kids) = name
+name_of (attr name value) = name
+name_of (text value) = []
+
+-- a byte of the value of an attribute or of a text is escaped
+abbrev pub is_escaped : Plain → Bool
+is_escaped (elem name kids) = false
+is_escaped (attr name value) = has_escape value
+is_escaped (text value) = has_escape value
 
 abbrev pub element_extent : ℕ → ℕ → ℕ → List ℕ → ℕ → Extent
 element_extent from to last name level = record {

@@ -1,5 +1,5 @@
 -- A document as its printed lines and an extent for each node.
-use Rattle.std.specs.Prelude.{◌≡◌, ℕ, ◌+◌, ◌-◌, ◌≤◌, nat_lt, ◌==◌, if◌then◌else◌, IsTrue, List, [], ◌∷◌, ◌++◌, map, length, take, drop, Option, Some, None}
+use Rattle.std.specs.Prelude.{◌≡◌, ℕ, ◌+◌, ◌-◌, ◌≤◌, nat_lt, ◌==◌, if◌then◌else◌, IsTrue, false, List, [], ◌∷◌, ◌++◌, map, length, take, drop, Option, Some, None}
 use Rattle.tb_tree.specs.Plain.{Plain, elem, attr, text, Plains, no_kids, kid, one, is_element}
 use Rattle.tb_tree.specs.Sound.{IsSound}
 use Rattle.tb_tree.specs.Levels.{levels}
@@ -87,3 +87,7 @@ pub record AreNodes (bytes : List ℕ) (es : List Extent) (number level : ℕ) (
   pub extents_are : es ≡ extents attributes_at content_at number level nodes
   pub attributes_stand : Stands bytes attributes_at (attribute_lines nodes)
   pub content_stands : Stands bytes content_at (content_lines nodes)
+
+-- an extent where none stands
+abbrev pub no_extent : code.Extent
+no_extent = record { from = 0; to = 0; last = 0; name = 0; level = 0; kind = kind.Text; escaped = false }

@@ -56,13 +56,13 @@ fn last_of(extent: &Extent) -> usize
     extent.last as usize
 }
 
-fn front(extents: &[Extent], count: usize) -> &[Extent]
+pub fn front(extents: &[Extent], count: usize) -> &[Extent]
     ensures { result.now ≡ take count extents.now }
 {
     &extents[..count.min(extents.len())]
 }
 
-fn back(extents: &[Extent], count: usize) -> &[Extent]
+pub fn back(extents: &[Extent], count: usize) -> &[Extent]
     ensures { result.now ≡ drop count extents.now }
 {
     &extents[count.min(extents.len())..]

@@ -1,5 +1,5 @@
 -- A node more, with its kids built from the extents inside its own.
-use Rattle.std.proofs.Common.{◌≡◌, ℕ, ◌+◌, ◌-◌, ◌<◌, ◌≤◌, length, take, drop, refl, ap, sym, ◌∙◌, subst, arith, length-take, length-drop}
+use Rattle.std.proofs.Common.{◌≡◌, ◌+◌, ◌-◌, ◌<◌, ◌≤◌, length, take, drop, refl, ap, sym, ◌∙◌, subst, arith, length-take, length-drop}
 use Rattle.std.proofs.lemmas.List.{nil_from_length}
 use Rattle.tb_tree.specs.Extents.{named}
 use Rattle.tb_tree.proofs.BuiltLaws.{IsBuilt, built-more, built-all, no_extent}

@@ -1,5 +1,5 @@
 -- The attribute's extent stands behind the place that is kept for its element.
-use Rattle.std.proofs.Common.{◌≡◌, ◌+◌, ◌*◌, length, refl, ap, arith}
+use Rattle.std.proofs.Common.{◌+◌, ◌*◌, length, refl, arith}
 use Rattle.tb_tree.specs.Printed.{attribute_line}
 use Rattle.tb_tree.proofs.LengthLaws.{fits, attribute-length}
 use Rattle.tb_tree.proofs.AttributeLaws.{shows-attribute}

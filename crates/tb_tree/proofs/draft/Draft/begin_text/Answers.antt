@@ -1,5 +1,5 @@
 -- The text's extent stands behind all others.
-use Rattle.std.proofs.Common.{◌≡◌, ◌+◌, ◌*◌, length, refl, ap, arith}
+use Rattle.std.proofs.Common.{◌+◌, ◌*◌, length, refl, arith}
 use Rattle.tb_tree.specs.Printed.{data_line}
 use Rattle.tb_tree.proofs.LengthLaws.{fits, data-length}
 use Rattle.tb_tree.proofs.TextLaws.{shows-begun_text}

@@ -1,5 +1,5 @@
 -- The extent of the innermost element is the one whose place stands last.
-use Rattle.std.proofs.Common.{◌≡◌, refl, arith}
+use Rattle.std.proofs.Common.{refl, arith}
 use Rattle.tb_tree.proofs.KeptLaws.{no_extent}
 use Rattle.tb_tree.proofs.EndLaws.{shows-end}
 use Rattle.tb_tree.proofs.draft.Draft.end.Goals as goal

@@ -1,5 +1,5 @@
 -- What the draft shows is a document.
-use Rattle.std.proofs.Common.{◌≡◌, sym, ◌∙◌, subst}
+use Rattle.std.proofs.Common.{sym, ◌∙◌, subst}
 use Rattle.tb_tree.specs.FlatTrees.{IsDocument}
 use Rattle.tb_tree.proofs.BackLaws.{document-read}
 use Rattle.tb_tree.proofs.DoneLaws.{made-document}

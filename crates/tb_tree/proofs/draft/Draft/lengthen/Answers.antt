@@ -1,5 +1,5 @@
 -- The text's line is the last one, and its extent too.
-use Rattle.std.proofs.Common.{◌≡◌, refl, arith}
+use Rattle.std.proofs.Common.{refl, arith}
 use Rattle.tb_tree.proofs.LengthLaws.{escaped-length}
 use Rattle.tb_tree.proofs.KeptLaws.{no_extent}
 use Rattle.tb_tree.proofs.TextLaws.{shows-longer_text}

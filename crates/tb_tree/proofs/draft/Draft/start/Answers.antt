@@ -1,5 +1,5 @@
 -- The element's extent is the one that was kept, or a new one.
-use Rattle.std.proofs.Common.{◌≡◌, ◌+◌, refl, arith}
+use Rattle.std.proofs.Common.{◌+◌, refl, arith}
 use Rattle.tb_tree.specs.Drafts.{begun_extent}
 use Rattle.tb_tree.proofs.KeptLaws.{written-at, no_extent}
 use Rattle.tb_tree.proofs.StartLaws.{shows-start}

@@ -1,8 +1,4 @@
 -- The extents are those of the root.
-use Rattle.std.proofs.Common.{List, ℕ, ◌≡◌, ◌++◌, sym, subst}
-use Rattle.tb_tree.specs.View.{plain_of}
-use Rattle.tb_tree.specs.FlatTrees.{IsPlaced}
-use Rattle.tb_tree.specs.declared.extent.Extent as code
 use Rattle.tb_tree.proofs.BackLaws.{opened, placed-moved}
 use Rattle.tb_tree.proofs.tree.Tree.parts.Goals as goal
 

@@ -1,5 +1,5 @@
 -- The extents of the document are those of one node.
-use Rattle.std.proofs.Common.{◌≡◌, [], ◌∷◌, length, ap, sym, ◌∙◌, arith}
+use Rattle.std.proofs.Common.{[], length, ap, sym, ◌∙◌, arith}
 use Rattle.std.proofs.lemmas.List.{same_from_push}
 use Rattle.tb_tree.specs.Plain.{one}
 use Rattle.tb_tree.specs.View.{plain_of}
