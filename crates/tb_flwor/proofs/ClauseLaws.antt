@@ -1,7 +1,7 @@
 -- Clauses are built one after the other, and each from its bindings.
 use Rattle.std.proofs.Common.{◌≡◌, ℕ, Bool, true, false, ◌-◌, ◌≤◌, List, [], ◌∷◌, ◌++◌, length, drop, refl, ap, ◌∙◌, arith}
 use Rattle.std.specs.Prelude.{codes}
-use Rattle.tb_token.specs.grammar.Grammar.{Tok, Part, both, maybe}
+use Rattle.tb_token.specs.grammar.Grammar.{Tok, Expression, both, maybe}
 use Rattle.tb_token.specs.grammar.Sentences.{Tree, nothing, pair, first, second}
 use Rattle.tb_token.specs.tokens.Lexemes.{place_in}
 use Rattle.tb_token.specs.grammar.Terminals.{keyword, sign, variable, list_of, comma}
@@ -61,7 +61,7 @@ module _ (names : BoundNames) where
 
   -- bind { "," bind }
 
-  abbrev other_bind : Part
+  abbrev other_bind : Expression
   other_bind = both comma bind
 
   abbrev pub BindsSoFar : List Clause → List Clause → List Tok → List Tok → Type 0
@@ -84,10 +84,10 @@ module _ (names : BoundNames) where
 
   -- A clause.
 
-  abbrev for_part : Part
+  abbrev for_part : Expression
   for_part = both (keyword (codes "FOR")) (list_of comma bind)
 
-  abbrev let_part : Part
+  abbrev let_part : Expression
   let_part = both (keyword (codes "LET")) (both variable (both (sign (codes ":=")) longpath))
 
   pub clause-for : (found : List Clause) (s left : List Tok) → begins (terminals.FOR ∷ []) s ≡ true → Builds (list_of comma bind) (AreBinds names found) (drop 1 s) left

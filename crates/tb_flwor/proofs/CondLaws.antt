@@ -1,7 +1,7 @@
 -- Conditions are built one after the other, and each from its operands.
 use Rattle.std.proofs.Common.{◌≡◌, ℕ, Bool, true, false, ◌≤◌, List, [], ◌∷◌, ◌++◌, length, drop, refl, sym, ap, ◌∙◌}
 use Rattle.std.specs.Prelude.{codes}
-use Rattle.tb_token.specs.grammar.Grammar.{Tok, Part, both, either, maybe, has}
+use Rattle.tb_token.specs.grammar.Grammar.{Tok, Expression, both, either, maybe, has}
 use Rattle.tb_token.specs.grammar.Sentences.{Tree, leaf, nothing, pair, second, by_one, by_both, by_second}
 use Rattle.tb_token.specs.grammar.Reading.{first_set}
 use Rattle.tb_token.proofs.grammar.PlaceLaws.{read-both, read-second, read-one}
@@ -50,7 +50,7 @@ module _ (names : BoundNames) where
 
   -- cmp ( operand | literal )
 
-  abbrev with : Part
+  abbrev with : Expression
   with = both cmp (either operand literal)
 
   abbrev Compared : List Tok → Right → Tree → Type 0
@@ -89,7 +89,7 @@ module _ (names : BoundNames) where
 
   -- Conditions behind the keyword WHERE.
 
-  abbrev other_cond : Part
+  abbrev other_cond : Expression
   other_cond = both (keyword (codes "AND")) cond
 
   abbrev pub CondsSoFar : List Comparison → List Comparison → List Tok → List Tok → Type 0

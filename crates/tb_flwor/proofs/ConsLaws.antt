@@ -1,7 +1,7 @@
 -- Constructors are built from their attributes and their parts.
 use Rattle.std.proofs.Common.{◌≡◌, ℕ, true, false, ◌-◌, ◌≤◌, List, [], ◌∷◌, ◌++◌, map, length, drop, refl, sym, ap, ◌∙◌, arith}
 use Rattle.std.specs.Prelude.{codes}
-use Rattle.tb_token.specs.grammar.Grammar.{Tok, Part, both, either, many}
+use Rattle.tb_token.specs.grammar.Grammar.{Tok, Expression, both, either, many}
 use Rattle.tb_token.specs.grammar.Sentences.{Tree, nothing, pair, second}
 use Rattle.tb_token.specs.grammar.Terminals.{sign, name, string}
 use Rattle.tb_token.specs.grammar.Paths.{path}
@@ -128,7 +128,7 @@ module _ (names : BoundNames) where
 
   -- What stands behind the attributes.
 
-  abbrev opened_tag : Part
+  abbrev opened_tag : Expression
   opened_tag = both (sign (codes ">")) (both (many piece) (both (sign (codes "</")) (both name (sign (codes ">")))))
 
   pub inside-none : (s : List Tok) → begins (terminals.SELF_CLOSE ∷ []) s ≡ true → Builds inside (AreInside names []) s (drop 1 s)

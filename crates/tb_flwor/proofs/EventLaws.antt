@@ -2,7 +2,7 @@
 use Rattle.std.proofs.Common.{◌≡◌, ℕ, Bool, true, false, cond, ◌&&◌, ◌==◌, List, [], ◌∷◌, ◌++◌, map, Some, refl, sym, ap, ◌∙◌, append_assoc, append-nil}
 use Rattle.std.specs.Prelude.{codes}
 use Rattle.std.proofs.lemmas.Bool.{and_parts, or_parts}
-use Rattle.tb_token.specs.grammar.Grammar.{Tok, Part, one, both, either, maybe, many, has}
+use Rattle.tb_token.specs.grammar.Grammar.{Tok, Expression, one, both, either, maybe, many, has}
 use Rattle.tb_token.specs.grammar.Sentences.{Tree, leaf, pair, first, second, Derives}
 use Rattle.tb_token.specs.grammar.LL1.{are_apart}
 use Rattle.tb_token.proofs.grammar.TerminalLaws.{none-true, has-left, has-right, apart-none}
@@ -112,7 +112,7 @@ lead c t s apart other h =
 
 -- Trees without variables.
 
-quiet-first : {p : Part} {v : Tree} → Of p v → lacks vars p ≡ true → (rest : List Tok) → var_first rest ≡ false → var_first (tokens_of v ++ rest) ≡ false
+quiet-first : {p : Expression} {v : Tree} → Of p v → lacks vars p ≡ true → (rest : List Tok) → var_first rest ≡ false → var_first (tokens_of v ++ rest) ≡ false
 quiet-first (of_one {c = c} {t = t} h) e rest f = no-variable c t e h
 quiet-first (of_both {p = p} {q = q} {v = v} {w = w} g h) e rest f =
     let parts = and_parts (lacks vars p) (lacks vars q) e in
@@ -126,7 +126,7 @@ quiet-first (of_more {v = v} {w = w} g h) e rest f =
     ap var_first (append_assoc (tokens_of v) (tokens_of w) rest) ∙ quiet-first g e (tokens_of w ++ rest) (quiet-first h e rest f)
 quiet-first (of_rule h g) e rest f = none-true false refl e
 
-quiet : {p : Part} {v : Tree} → Of p v → lacks vars p ≡ true → (rest : List Tok) → var_first rest ≡ false → raw 0 (tokens_of v ++ rest) ≡ raw 0 rest
+quiet : {p : Expression} {v : Tree} → Of p v → lacks vars p ≡ true → (rest : List Tok) → var_first rest ≡ false → raw 0 (tokens_of v ++ rest) ≡ raw 0 rest
 quiet (of_one {c = c} {t = t} h) e rest f =
     ap (λ x. cond x (event_at 0 t rest ∷ raw t.terminal rest) (raw t.terminal rest)) (no-variable c t e h) ∙ raw-any t.terminal rest f
 quiet (of_both {p = p} {q = q} {v = v} {w = w} g h) e rest f =
@@ -219,7 +219,7 @@ free-pair v w f g rest e =
     (ap var_first apart ∙ inner.0, ap binds apart ∙ inner.1)
 
 -- no variable behind the tree
-has-then : {q : Part} (es : List Event) (v w : Tree) → Has es v → Of q w → lacks vars q ≡ true → IsFree w → Has es (pair v w)
+has-then : {q : Expression} (es : List Event) (v w : Tree) → Has es v → Of q w → lacks vars q ≡ true → IsFree w → Has es (pair v w)
 has-then es v w f g e free rest r =
     ap (raw 0) (append_assoc (tokens_of v) (tokens_of w) rest) ∙ f (tokens_of w ++ rest) (free rest r) ∙ ap (λ x. es ++ x) (quiet g e rest r.0)
 
@@ -319,7 +319,7 @@ cond-has : {v : Tree} → Of part.cond v → Has (in_cond v) v
 cond-has (of_both {v = l} f (of_both {w = r} (of_one {c = c} {t = t} h) g)) =
     has-pair (in_operand l) (in_right r) l (pair (leaf t) r) (operand-has f) (lead-pair (in_right r) c t r refl refl h (right-has g)) (free-first c t r refl refl h)
 
-abbrev and_cond : Part
+abbrev and_cond : Expression
 and_cond = both (keyword (codes "AND")) part.cond
 
 conds-free : {v : Tree} → Of (many and_cond) v → IsFree v
@@ -427,7 +427,7 @@ ends-then : (es : List Event) (v w : Tree) → Ends es v → Ends [] w → Ends 
 ends-then es v w f g rest =
     ap (raw 0) (append_assoc (tokens_of v) (tokens_of w) rest) ∙ f (tokens_of w ++ rest) ∙ ap (λ x. es ++ x) (g rest)
 
-abbrev tail : Part
+abbrev tail : Expression
 tail = either (sign (codes "/>")) (both (sign (codes ">")) (both (many piece) (both (sign (codes "</")) (both name (sign (codes ">"))))))
 
 tail-first : {v : Tree} → Of tail v → (rest : List Tok) → var_first (tokens_of v ++ rest) ≡ false

@@ -1,7 +1,7 @@
 -- A query of clauses is built from its parts.
 use Rattle.std.proofs.Common.{◌≡◌, List, [], ◌∷◌, drop, sym, ap, ◌∙◌}
 use Rattle.std.specs.Prelude.{codes}
-use Rattle.tb_token.specs.grammar.Grammar.{Tok, Part, both, maybe, many}
+use Rattle.tb_token.specs.grammar.Grammar.{Tok, Expression, both, maybe, many}
 use Rattle.tb_token.specs.grammar.Sentences.{Tree, pair}
 use Rattle.tb_token.specs.grammar.Terminals.{keyword}
 use Rattle.tb_token.specs.grammar.Queries.{clause, where_part, group, order, flwor}
@@ -15,16 +15,16 @@ use Rattle.tb_flwor.specs.Asked.{IsFlwor}
 use Rattle.tb_flwor.specs.Built.{GivesAll, AreMoreClauses, BuildsClauses, AreConds, IsGroup, AreKeys, IsBack}
 
 module _ (names : BoundNames) (q : query.Flwor) (s l1 l2 l3 l4 l5 : List Tok) (clauses_are : BuildsClauses names q.clauses s l1) where
-  abbrev returned : Part
+  abbrev returned : Expression
   returned = both (keyword (codes "RETURN")) back
 
-  abbrev ordered : Part
+  abbrev ordered : Expression
   ordered = both (maybe order) returned
 
-  abbrev grouped : Part
+  abbrev grouped : Expression
   grouped = both (maybe group) ordered
 
-  abbrev kept : Part
+  abbrev kept : Expression
   kept = both (maybe where_part) grouped
 
   abbrev Returned : Tree → Type 0

@@ -1,7 +1,7 @@
 -- Operands are built from their paths.
 use Rattle.std.proofs.Common.{◌≡◌, ℕ, true, false, List, [], ◌∷◌, drop, refl, ap, ◌∙◌}
 use Rattle.std.specs.Prelude.{codes}
-use Rattle.tb_token.specs.grammar.Grammar.{Tok, Part, both, either}
+use Rattle.tb_token.specs.grammar.Grammar.{Tok, Expression, both, either}
 use Rattle.tb_token.specs.grammar.Sentences.{Tree, pair, second}
 use Rattle.tb_token.specs.grammar.Terminals.{sign, string}
 use Rattle.tb_token.specs.grammar.Paths.{agg, operand, path}
@@ -25,10 +25,10 @@ abbrev agg_terminals : List ℕ
 agg_terminals = terminals.COUNT ∷ terminals.SUM ∷ terminals.MIN ∷ terminals.MAX ∷ []
 
 module _ (names : BoundNames) (s left : List Tok) where
-  abbrev closed : Part
+  abbrev closed : Expression
   closed = both path (sign (codes ")"))
 
-  abbrev taken : Part
+  abbrev taken : Expression
   taken = both agg (both (sign (codes "(")) closed)
 
   pub operand-nodes : (is : Path) → begins path_terminals s ≡ true → Builds path (IsPath names is) s left → Builds operand (IsOperand names (operand.Nodes is)) s left

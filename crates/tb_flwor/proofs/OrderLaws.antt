@@ -1,7 +1,7 @@
 -- Groups and keys are built from their paths and operands.
 use Rattle.std.proofs.Common.{◌≡◌, ℕ, Bool, true, false, ◌≤◌, List, [], ◌∷◌, ◌++◌, length, drop, Some, None, refl, ap, ◌∙◌}
 use Rattle.std.specs.Prelude.{codes}
-use Rattle.tb_token.specs.grammar.Grammar.{Tok, Part, both, maybe}
+use Rattle.tb_token.specs.grammar.Grammar.{Tok, Expression, both, maybe}
 use Rattle.tb_token.specs.grammar.Sentences.{Tree, nothing, pair}
 use Rattle.tb_token.specs.tokens.Lexemes.{place_in}
 use Rattle.tb_token.specs.grammar.Terminals.{keyword, sign, variable, list_of, comma}
@@ -90,7 +90,7 @@ module _ (names : BoundNames) where
       (λ v b behind. ap (λ x. key_from names x behind) b.pair_is ∙ rw (b.one_is, b.two_is) refl)
       (both-builds operand (maybe direction) (IsOperand names o) (IsTurned turned) s mid left operand_is turned_is)
 
-  abbrev other_key : Part
+  abbrev other_key : Expression
   other_key = both comma key
 
   abbrev pub KeysSoFar : List Key → List Key → List Tok → List Tok → Type 0

@@ -1,7 +1,7 @@
 -- Paths are built step by step.
 use Rattle.std.proofs.Common.{◌≡◌, ℕ, true, false, ◌-◌, ◌≤◌, List, [], ◌∷◌, ◌++◌, length, drop, refl, ap, ◌∙◌}
 use Rattle.std.specs.Prelude.{codes}
-use Rattle.tb_token.specs.grammar.Grammar.{Tok, Part, both, either, many}
+use Rattle.tb_token.specs.grammar.Grammar.{Tok, Expression, both, either, many}
 use Rattle.tb_token.specs.grammar.Sentences.{Tree, leaf, nothing, pair, first, second}
 use Rattle.tb_token.specs.tokens.Lexemes.{place_in}
 use Rattle.tb_token.specs.grammar.Terminals.{keyword, sign, string, variable}
@@ -117,10 +117,10 @@ module _ (names : BoundNames) (s left : List Tok) where
       (λ v b. ap (longpath_of names) b.pair_is ∙ b.one_is b.two ∙ ap (λ x. from is x) b.two_is)
       (both-builds (either doc variable) steps (IsStart names is) (AreSteps are) s mid left start_is steps_are)
 
-  abbrev from_doc : Part
+  abbrev from_doc : Expression
   from_doc = both doc steps
 
-  abbrev from_var : Part
+  abbrev from_var : Expression
   from_var = both variable (many step)
 
   pub path-document : (mid : List Tok) (name : List ℕ) (are : List Step) → begins (terminals.DOCUMENT ∷ []) s ≡ true → Builds doc (IsDocument name) s mid → Builds steps (AreSteps are) mid left

@@ -3,7 +3,7 @@
 use Rattle.std.proofs.Common.{◌≡◌, ℕ, true, false, cond, ◌&&◌, ◌||◌, ◌==◌, not, List, [], ◌∷◌, ◌++◌, refl, ap, ◌∙◌, append_assoc, append-nil}
 use Rattle.std.specs.Prelude.{codes}
 use Rattle.std.proofs.lemmas.Bool.{and_parts, or_parts}
-use Rattle.tb_token.specs.grammar.Grammar.{Tok, Part, both, either, maybe, many, has}
+use Rattle.tb_token.specs.grammar.Grammar.{Tok, Expression, both, either, maybe, many, has}
 use Rattle.tb_token.specs.grammar.Sentences.{Tree, leaf, pair}
 use Rattle.tb_token.specs.grammar.LL1.{are_apart}
 use Rattle.tb_token.proofs.grammar.TerminalLaws.{none-true, and-false, has-left, has-right, apart-none}
@@ -49,7 +49,7 @@ calm-leaf c t apart h rest =
     let other = swapped t.terminal terminals.RETURN ∙ none.0 in
     ap (λ x. cond (x && true) rest (behind_return t.terminal rest)) other ∙ same-before t.terminal rest none.1
 
-quiet : {p : Part} {v : Tree} → Of p v → lacks special p ≡ true → Calm v
+quiet : {p : Expression} {v : Tree} → Of p v → lacks special p ≡ true → Calm v
 quiet (of_one {c = c} {t = t} h) e = calm-leaf c t e h
 quiet (of_both {p = p} {q = q} {v = v} {w = w} f g) e =
     let parts = and_parts (lacks special p) (lacks special q) e in

@@ -7,13 +7,13 @@ use Rattle.tb_token.specs.grammar.Patterns.{edges_rest}
 use Rattle.tb_token.specs.grammar.Results.{cons_rest}
 use Rattle.tb_token.specs.grammar.Queries.{rules, follow, query}
 use Rattle.tb_token.proofs.grammar.QueryLaws.{readable}
-use Rattle.tb_token.specs.reading.View.{part_of, rules_of}
+use Rattle.tb_token.specs.reading.View.{expression_of, rules_of}
 use Rattle.tb_token.specs.reading.Calls.{Says, IsRead}
-use Rattle.tb_token.specs.declared.reader.part.Grammar.{Grammar}
+use Rattle.tb_token.specs.declared.reader.expression.Grammar.{Grammar}
 use Rattle.tb_flwor.specs.Calls.{FirstWrong}
 
 -- the grammar of queries, rule by rule
-pub says-query : (g : Grammar) → part_of g.start.now ≡ query → rules_of g 0 ≡ edges_rest → rules_of g 1 ≡ cons_rest → ((n : ℕ) → rules_of g (suc (suc n)) ≡ name) → Says g rules query
+pub says-query : (g : Grammar) → expression_of g.start.now ≡ query → rules_of g 0 ≡ edges_rest → rules_of g 1 ≡ cons_rest → ((n : ℕ) → rules_of g (suc (suc n)) ≡ name) → Says g rules query
 says-query g start first second others = record { each_rule = each; start_is = start }
   where
     each : (n : ℕ) → rules_of g n ≡ rules n

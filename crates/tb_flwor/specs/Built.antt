@@ -1,6 +1,6 @@
 -- Which trees the values that the program builds stand for, part by part.
 use Rattle.std.specs.Prelude.{◌≡◌, ℕ, Bool, false, List, [], ◌∷◌, ◌++◌, Option, map, codes}
-use Rattle.tb_token.specs.grammar.Grammar.{Tok, Part, one, both, either, many, row}
+use Rattle.tb_token.specs.grammar.Grammar.{Tok, Expression, one, both, either, many, row}
 use Rattle.tb_token.specs.grammar.Sentences.{Tree, pair, first}
 use Rattle.tb_token.specs.tokens.Lexemes.{terminal_of}
 use Rattle.tb_token.specs.declared.lexer.token.Kind.TheVariants.{Word}
@@ -78,7 +78,7 @@ IsRight names is v = value.right_of names v ≡ is
 -- Clauses, conditions, groups, keys.
 
 -- ALLOWING EMPTY
-abbrev pub allowing : Part
+abbrev pub allowing : Expression
 allowing = both (keyword (codes "ALLOWING")) (keyword (codes "EMPTY"))
 
 -- whether it is there
@@ -108,7 +108,7 @@ abbrev pub IsGroup : BoundNames → Option GroupBy → Tree → Type 0
 IsGroup names is v = value.group_of names v ≡ is
 
 -- ASCENDING | DESCENDING
-abbrev pub direction : Part
+abbrev pub direction : Expression
 direction = one (map (terminal_of Word) (codes "ASCENDING" ∷ codes "DESCENDING" ∷ []))
 
 -- whether the order is turned round
@@ -121,7 +121,7 @@ AreKeys names are v = value.keys_of names v ≡ are
 -- Constructors.
 
 -- "/>" | ">" { piece } "</" NAME ">"
-abbrev pub inside : Part
+abbrev pub inside : Expression
 inside =
     either (sign (codes "/>"))
     (row (sign (codes ">")) (many results.piece ∷ sign (codes "</") ∷ name ∷ sign (codes ">") ∷ []))

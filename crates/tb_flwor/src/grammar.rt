@@ -5,149 +5,158 @@
 use tb_pattern::grammar::{
     AND, AXIS, CLOSE, CMP, COMMA, DOC, LITERAL, MATCH_QUERY, NAME, OPEN, STRING, TEST,
 };
-use tb_token::{Part, terminals};
+use tb_token::{Expression, terminals};
 
-const VARIABLE: Part = Part::One(&[terminals::VARIABLE]);
+const VARIABLE: Expression = Expression::One(&[terminals::VARIABLE]);
 
-const SELF_CLOSE: Part = Part::One(&[terminals::SELF_CLOSE]);
+const SELF_CLOSE: Expression = Expression::One(&[terminals::SELF_CLOSE]);
 
-const END_TAG: Part = Part::One(&[terminals::END_TAG]);
+const END_TAG: Expression = Expression::One(&[terminals::END_TAG]);
 
-const GREATER: Part = Part::One(&[terminals::GREATER]);
+const GREATER: Expression = Expression::One(&[terminals::GREATER]);
 
-const EQUAL: Part = Part::One(&[terminals::EQUAL]);
+const EQUAL: Expression = Expression::One(&[terminals::EQUAL]);
 
-const ASSIGN: Part = Part::One(&[terminals::ASSIGN]);
+const ASSIGN: Expression = Expression::One(&[terminals::ASSIGN]);
 
-const OPEN_BRACE: Part = Part::One(&[terminals::OPEN_BRACE]);
+const OPEN_BRACE: Expression = Expression::One(&[terminals::OPEN_BRACE]);
 
-const CLOSE_BRACE: Part = Part::One(&[terminals::CLOSE_BRACE]);
+const CLOSE_BRACE: Expression = Expression::One(&[terminals::CLOSE_BRACE]);
 
-const FOR: Part = Part::One(&[terminals::FOR]);
+const FOR: Expression = Expression::One(&[terminals::FOR]);
 
-const LET: Part = Part::One(&[terminals::LET]);
+const LET: Expression = Expression::One(&[terminals::LET]);
 
-const IN: Part = Part::One(&[terminals::IN]);
+const IN: Expression = Expression::One(&[terminals::IN]);
 
-const ALLOWING: Part = Part::One(&[terminals::ALLOWING]);
+const ALLOWING: Expression = Expression::One(&[terminals::ALLOWING]);
 
-const EMPTY: Part = Part::One(&[terminals::EMPTY]);
+const EMPTY: Expression = Expression::One(&[terminals::EMPTY]);
 
-const WHERE: Part = Part::One(&[terminals::WHERE]);
+const WHERE: Expression = Expression::One(&[terminals::WHERE]);
 
-const GROUP: Part = Part::One(&[terminals::GROUP]);
+const GROUP: Expression = Expression::One(&[terminals::GROUP]);
 
-const ORDER: Part = Part::One(&[terminals::ORDER]);
+const ORDER: Expression = Expression::One(&[terminals::ORDER]);
 
-const BY: Part = Part::One(&[terminals::BY]);
+const BY: Expression = Expression::One(&[terminals::BY]);
 
-const RETURN: Part = Part::One(&[terminals::RETURN]);
+const RETURN: Expression = Expression::One(&[terminals::RETURN]);
 
-const AGG: Part = Part::One(&[
+const AGG: Expression = Expression::One(&[
     terminals::COUNT,
     terminals::SUM,
     terminals::MIN,
     terminals::MAX,
 ]);
 
-const DIRECTION: Part = Part::One(&[terminals::ASCENDING, terminals::DESCENDING]);
+const DIRECTION: Expression = Expression::One(&[terminals::ASCENDING, terminals::DESCENDING]);
 
 // step = axis test
-const STEP: Part = Part::Both(&AXIS, &TEST);
+const STEP: Expression = Expression::Both(&AXIS, &TEST);
 
 // step { step }
-const STEPS: Part = Part::Both(&STEP, &Part::Many(&STEP));
+const STEPS: Expression = Expression::Both(&STEP, &Expression::Many(&STEP));
 
 // longpath = ( doc | VARIABLE ) step { step }
-const LONGPATH: Part = Part::Both(&Part::Either(&DOC, &VARIABLE), &STEPS);
+const LONGPATH: Expression = Expression::Both(&Expression::Either(&DOC, &VARIABLE), &STEPS);
 
 // path = doc step { step } | VARIABLE { step }
-const PATH: Part = Part::Either(
-    &Part::Both(&DOC, &STEPS),
-    &Part::Both(&VARIABLE, &Part::Many(&STEP)),
+const PATH: Expression = Expression::Either(
+    &Expression::Both(&DOC, &STEPS),
+    &Expression::Both(&VARIABLE, &Expression::Many(&STEP)),
 );
 
 // operand = path | agg "(" path ")"
-const OPERAND: Part = Part::Either(
+const OPERAND: Expression = Expression::Either(
     &PATH,
-    &Part::Both(&AGG, &Part::Both(&OPEN, &Part::Both(&PATH, &CLOSE))),
+    &Expression::Both(
+        &AGG,
+        &Expression::Both(&OPEN, &Expression::Both(&PATH, &CLOSE)),
+    ),
 );
 
 // bind = VARIABLE [ ALLOWING EMPTY ] IN longpath
-const BIND: Part = Part::Both(
+const BIND: Expression = Expression::Both(
     &VARIABLE,
-    &Part::Both(
-        &Part::Maybe(&Part::Both(&ALLOWING, &EMPTY)),
-        &Part::Both(&IN, &LONGPATH),
+    &Expression::Both(
+        &Expression::Maybe(&Expression::Both(&ALLOWING, &EMPTY)),
+        &Expression::Both(&IN, &LONGPATH),
     ),
 );
 
 // clause = FOR bind { "," bind } | LET VARIABLE ":=" longpath
-const CLAUSE: Part = Part::Either(
-    &Part::Both(
+const CLAUSE: Expression = Expression::Either(
+    &Expression::Both(
         &FOR,
-        &Part::Both(&BIND, &Part::Many(&Part::Both(&COMMA, &BIND))),
+        &Expression::Both(&BIND, &Expression::Many(&Expression::Both(&COMMA, &BIND))),
     ),
-    &Part::Both(
+    &Expression::Both(
         &LET,
-        &Part::Both(&VARIABLE, &Part::Both(&ASSIGN, &LONGPATH)),
+        &Expression::Both(&VARIABLE, &Expression::Both(&ASSIGN, &LONGPATH)),
     ),
 );
 
 // cond = operand cmp ( operand | literal )
-const COND: Part = Part::Both(
+const COND: Expression = Expression::Both(
     &OPERAND,
-    &Part::Both(&CMP, &Part::Either(&OPERAND, &LITERAL)),
+    &Expression::Both(&CMP, &Expression::Either(&OPERAND, &LITERAL)),
 );
 
 // where = WHERE cond { AND cond }
-const WHERE_PART: Part = Part::Both(
+const WHERE_PART: Expression = Expression::Both(
     &WHERE,
-    &Part::Both(&COND, &Part::Many(&Part::Both(&AND, &COND))),
+    &Expression::Both(&COND, &Expression::Many(&Expression::Both(&AND, &COND))),
 );
 
 // group = GROUP BY VARIABLE ":=" path
-const GROUP_PART: Part = Part::Both(
+const GROUP_PART: Expression = Expression::Both(
     &GROUP,
-    &Part::Both(&BY, &Part::Both(&VARIABLE, &Part::Both(&ASSIGN, &PATH))),
+    &Expression::Both(
+        &BY,
+        &Expression::Both(&VARIABLE, &Expression::Both(&ASSIGN, &PATH)),
+    ),
 );
 
 // key = operand [ ASCENDING | DESCENDING ]
-const KEY: Part = Part::Both(&OPERAND, &Part::Maybe(&DIRECTION));
+const KEY: Expression = Expression::Both(&OPERAND, &Expression::Maybe(&DIRECTION));
 
 // order = ORDER BY key { "," key }
-const ORDER_PART: Part = Part::Both(
+const ORDER_PART: Expression = Expression::Both(
     &ORDER,
-    &Part::Both(
+    &Expression::Both(
         &BY,
-        &Part::Both(&KEY, &Part::Many(&Part::Both(&COMMA, &KEY))),
+        &Expression::Both(&KEY, &Expression::Many(&Expression::Both(&COMMA, &KEY))),
     ),
 );
 
 // cons = "<" and the rest of the constructor, which is rule 1
-const CONS: Part = Part::Opened(&[terminals::LESS], 1);
+const CONS: Expression = Expression::Opened(&[terminals::LESS], 1);
 
 // "{" operand "}"
-const BRACED: Part = Part::Both(&OPEN_BRACE, &Part::Both(&OPERAND, &CLOSE_BRACE));
+const BRACED: Expression = Expression::Both(&OPEN_BRACE, &Expression::Both(&OPERAND, &CLOSE_BRACE));
 
 // attr = NAME "=" ( STRING | "{" operand "}" )
-const ATTR: Part = Part::Both(&NAME, &Part::Both(&EQUAL, &Part::Either(&STRING, &BRACED)));
+const ATTR: Expression = Expression::Both(
+    &NAME,
+    &Expression::Both(&EQUAL, &Expression::Either(&STRING, &BRACED)),
+);
 
 // piece = cons | STRING | "{" operand "}"
-const PIECE: Part = Part::Either(&CONS, &Part::Either(&STRING, &BRACED));
+const PIECE: Expression = Expression::Either(&CONS, &Expression::Either(&STRING, &BRACED));
 
 // NAME { attr } ( "/>" | ">" { piece } "</" NAME ">" )
-pub const CONS_REST: Part = Part::Both(
+pub const CONS_REST: Expression = Expression::Both(
     &NAME,
-    &Part::Both(
-        &Part::Many(&ATTR),
-        &Part::Either(
+    &Expression::Both(
+        &Expression::Many(&ATTR),
+        &Expression::Either(
             &SELF_CLOSE,
-            &Part::Both(
+            &Expression::Both(
                 &GREATER,
-                &Part::Both(
-                    &Part::Many(&PIECE),
-                    &Part::Both(&END_TAG, &Part::Both(&NAME, &GREATER)),
+                &Expression::Both(
+                    &Expression::Many(&PIECE),
+                    &Expression::Both(&END_TAG, &Expression::Both(&NAME, &GREATER)),
                 ),
             ),
         ),
@@ -155,22 +164,25 @@ pub const CONS_REST: Part = Part::Both(
 );
 
 // back = path | cons
-const BACK: Part = Part::Either(&PATH, &CONS);
+const BACK: Expression = Expression::Either(&PATH, &CONS);
 
 // flwor = clause { clause } [ where ] [ group ] [ order ] RETURN back
-const FLWOR: Part = Part::Both(
+const FLWOR: Expression = Expression::Both(
     &CLAUSE,
-    &Part::Both(
-        &Part::Many(&CLAUSE),
-        &Part::Both(
-            &Part::Maybe(&WHERE_PART),
-            &Part::Both(
-                &Part::Maybe(&GROUP_PART),
-                &Part::Both(&Part::Maybe(&ORDER_PART), &Part::Both(&RETURN, &BACK)),
+    &Expression::Both(
+        &Expression::Many(&CLAUSE),
+        &Expression::Both(
+            &Expression::Maybe(&WHERE_PART),
+            &Expression::Both(
+                &Expression::Maybe(&GROUP_PART),
+                &Expression::Both(
+                    &Expression::Maybe(&ORDER_PART),
+                    &Expression::Both(&RETURN, &BACK),
+                ),
             ),
         ),
     ),
 );
 
 // query = match | flwor
-pub const QUERY: Part = Part::Either(&MATCH_QUERY, &FLWOR);
+pub const QUERY: Expression = Expression::Either(&MATCH_QUERY, &FLWOR);

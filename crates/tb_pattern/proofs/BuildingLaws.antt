@@ -1,7 +1,7 @@
 -- What is built of a part is built of its parts.
 use Rattle.std.proofs.Common.{◌≡◌, ℕ, Bool, true, false, cond, List, [], ◌∷◌, drop, Option, Some, None, refl, sym, ap, ◌∙◌}
 use Rattle.std.specs.Prelude.{codes}
-use Rattle.tb_token.specs.grammar.Grammar.{Tok, Part, one, both, either, maybe, opened, has}
+use Rattle.tb_token.specs.grammar.Grammar.{Tok, Expression, one, both, either, maybe, opened, has}
 use Rattle.tb_token.specs.grammar.Sentences.{Tree, leaf, nothing, pair, first, second, by_one, by_both, by_first, by_second, left_out, put_in, by_rule}
 use Rattle.tb_token.specs.grammar.Reading.{is_never_empty, first_set, after, read}
 use Rattle.tb_token.proofs.grammar.PlaceLaws.{read-both, read-first, read-second, read-put_in, read-left_out, read-one, read-rule}
@@ -29,7 +29,7 @@ numbers-next minus t u e = by (is_past minus t.terminal t.bytes) refl e
     by true here e = some-none e
     by false here e = (here, e)
 
-pub come-next : (minus : Bool) (ps qs : List Part) (t : Tok) (u : List Tok) → Come minus ps (t ∷ u) → read rules (t ∷ u) (Some ps) ≡ read rules u (Some qs)
+pub come-next : (minus : Bool) (ps qs : List Expression) (t : Tok) (u : List Tok) → Come minus ps (t ∷ u) → read rules (t ∷ u) (Some ps) ≡ read rules u (Some qs)
     → Come (is_sign (codes "-") t.terminal) qs u
 come-next minus ps qs t u come e = record {
   parts = sym e ∙ come.parts;
@@ -38,10 +38,10 @@ come-next minus ps qs t u come e = record {
 }
 
 -- the same parts in another way
-pub come-as : (minus : Bool) (ps qs : List Part) (s : List Tok) → read rules s (Some ps) ≡ read rules s (Some qs) → Come minus ps s → Come minus qs s
+pub come-as : (minus : Bool) (ps qs : List Expression) (s : List Tok) → read rules s (Some ps) ≡ read rules s (Some qs) → Come minus ps s → Come minus qs s
 come-as minus ps qs s e come = record { parts = sym e ∙ come.parts; digits = come.digits; numbers = come.numbers }
 
-pub wrong-terminal : {A : Type 0} (c : List ℕ) (t : Tok) (u : List Tok) (ps : List Part) → has c t.terminal ≡ false → read rules (t ∷ u) (Some (one c ∷ ps)) ≡ None → A
+pub wrong-terminal : {A : Type 0} (c : List ℕ) (t : Tok) (u : List Tok) (ps : List Expression) → has c t.terminal ≡ false → read rules (t ∷ u) (Some (one c ∷ ps)) ≡ None → A
 wrong-terminal c t u ps h e =
     let stuck : after rules (one c ∷ ps) t.terminal ≡ None = rw h refl in
     some-none (sym (ap (λ o. read rules u o) stuck) ∙ e)
@@ -69,8 +69,8 @@ pub record Both (P Q : Tree → Type 0) (v : Tree) : Type 0 where
   pub one_is : P one
   pub two_is : Q two
 
-module _ (p q : Part) (P Q : Tree → Type 0) (s mid left : List Tok) where
-  both-built : (ps : List Part) (b : IsBuilt p P (q ∷ ps) s mid) → IsBuilt q Q ps mid left → IsBuilt (both p q) (Both P Q) ps s left
+module _ (p q : Expression) (P Q : Tree → Type 0) (s mid left : List Tok) where
+  both-built : (ps : List Expression) (b : IsBuilt p P (q ∷ ps) s mid) → IsBuilt q Q ps mid left → IsBuilt (both p q) (Both P Q) ps s left
   both-built ps b d = record {
     minus = d.minus;
     behind = d.behind;
@@ -85,7 +85,7 @@ module _ (p q : Part) (P Q : Tree → Type 0) (s mid left : List Tok) where
       both-built ps b (two_is ps b.minus b.behind)
 
 -- the same part with a tree of which more is said
-pub builds-as : (p : Part) (P Q : Tree → Type 0) (s left : List Tok) → ((v : Tree) → P v → Q v) → Builds p P s left → Builds p Q s left
+pub builds-as : (p : Expression) (P Q : Tree → Type 0) (s left : List Tok) → ((v : Tree) → P v → Q v) → Builds p P s left → Builds p Q s left
 builds-as p P Q s left says is ps minus come =
     let b = is ps minus come in
     record { minus = b.minus; behind = b.behind; tree = b.tree; is = says b.tree b.is; derived = b.derived }
@@ -102,7 +102,7 @@ pub record Second (Q : Tree → Type 0) (v : Tree) : Type 0 where
   pub second_is : v ≡ second two
   pub two_is : Q two
 
-pub first-builds : (p q : Part) (P : Tree → Type 0) (s left : List Tok) → begins (first_set p) s ≡ true → Builds p P s left → Builds (either p q) (First P) s left
+pub first-builds : (p q : Expression) (P : Tree → Type 0) (s left : List Tok) → begins (first_set p) s ≡ true → Builds p P s left → Builds (either p q) (First P) s left
 first-builds p q P [] left e is ps minus come = false-true e
 first-builds p q P (t ∷ u) left e is ps minus come =
     let b = is ps minus (come-as minus (either p q ∷ ps) (p ∷ ps) (t ∷ u) (read-first rules p q t u ps e) come) in
@@ -114,7 +114,7 @@ first-builds p q P (t ∷ u) left e is ps minus come =
       derived = λ vs d. by_first (b.derived vs d);
     }
 
-pub second-builds : (p q : Part) (Q : Tree → Type 0) (s left : List Tok) → is_never_empty (either p q) ≡ true → begins (first_set p) s ≡ false → Builds q Q s left
+pub second-builds : (p q : Expression) (Q : Tree → Type 0) (s left : List Tok) → is_never_empty (either p q) ≡ true → begins (first_set p) s ≡ false → Builds q Q s left
     → Builds (either p q) (Second Q) s left
 second-builds p q Q [] left filled e is ps minus come =
     let ends : read rules [] (Some (either p q ∷ ps)) ≡ Some 0 = rw filled refl in
@@ -129,13 +129,13 @@ second-builds p q Q (t ∷ u) left filled e is ps minus come =
       derived = λ vs d. by_second (b.derived vs d);
     }
 
-pub put_in-builds : (p : Part) (P : Tree → Type 0) (s left : List Tok) → begins (first_set p) s ≡ true → Builds p P s left → Builds (maybe p) P s left
+pub put_in-builds : (p : Expression) (P : Tree → Type 0) (s left : List Tok) → begins (first_set p) s ≡ true → Builds p P s left → Builds (maybe p) P s left
 put_in-builds p P [] left e is ps minus come = false-true e
 put_in-builds p P (t ∷ u) left e is ps minus come =
     let b = is ps minus (come-as minus (maybe p ∷ ps) (p ∷ ps) (t ∷ u) (read-put_in rules p t u ps e) come) in
     record { minus = b.minus; behind = b.behind; tree = b.tree; is = b.is; derived = λ vs d. put_in (b.derived vs d) }
 
-pub left_out-builds : (p : Part) (s : List Tok) → begins (first_set p) s ≡ false → Builds (maybe p) (λ v. v ≡ nothing) s s
+pub left_out-builds : (p : Expression) (s : List Tok) → begins (first_set p) s ≡ false → Builds (maybe p) (λ v. v ≡ nothing) s s
 left_out-builds p [] e ps minus come = record {
   minus = minus;
   behind = come-as minus (maybe p ∷ ps) ps [] refl come;

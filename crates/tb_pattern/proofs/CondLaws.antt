@@ -2,7 +2,7 @@
 use Rattle.std.proofs.Common.{◌≡◌, ℕ, Bool, true, false, cond, ◌≤◌, List, [], ◌∷◌, ◌++◌, length, drop, Option, Some, None, refl, sym, ap, ◌∙◌, append-nil, append_assoc, eqb-true, pos, arith, length-drop}
 use Rattle.std.specs.Prelude.{ℤ, codes}
 use Rattle.std.specs.Option.{unwrap_or}
-use Rattle.tb_token.specs.grammar.Grammar.{Tok, Part, both, maybe, many, has}
+use Rattle.tb_token.specs.grammar.Grammar.{Tok, Expression, both, maybe, many, has}
 use Rattle.tb_token.specs.grammar.Sentences.{Tree, leaf, nothing, pair, second, by_one, by_both, by_second, left_out, put_in}
 use Rattle.tb_token.proofs.grammar.PlaceLaws.{read-both, read-second, read-put_in, read-left_out, read-one}
 use Rattle.tb_token.proofs.grammar.TerminalLaws.{none-true, has-only}
@@ -48,7 +48,7 @@ number-same minus digits is some = by (literal_in minus digits) refl some
 abbrev IsNumber : Bool → List Tok → Tree → Type 0
 IsNumber minus s v = a.Number (signed minus (number_of (bytes_in v))) ≡ number_or_zero minus (bytes_in (next s))
 
-number-built : (minus : Bool) (s : List Tok) (ps : List Part) → Come minus (number ∷ ps) s → IsBuilt number (IsNumber minus s) ps s (drop 1 s)
+number-built : (minus : Bool) (s : List Tok) (ps : List Expression) → Come minus (number ∷ ps) s → IsBuilt number (IsNumber minus s) ps s (drop 1 s)
 number-built minus [] ps come = some-none come.parts
 number-built minus (t ∷ u) ps come = by (has (terminals.NUMBER ∷ []) t.terminal) refl
   where
@@ -73,7 +73,7 @@ quote_terminal = terminals.QUOTED ∷ []
 abbrev minus_terminal : List ℕ
 minus_terminal = terminals.MINUS ∷ []
 
-abbrev signed_part : Part
+abbrev signed_part : Expression
 signed_part = both (maybe (sign (codes "-"))) number
 
 abbrev and_terminal : List ℕ
@@ -151,7 +151,7 @@ cond-builds (t ∷ u) left with is ps minus come = by (has terminals.COMPARISONS
         }
     by false h = wrong-terminal terminals.COMPARISONS t u (literal ∷ ps) h (sym (read-both rules cmp literal (t ∷ u) ps) ∙ come.parts)
 
-abbrev other_cond : Part
+abbrev other_cond : Expression
 other_cond = both (keyword (codes "AND")) one_cond
 
 -- so much of the list behind the first token is built: a condition, and others behind it
@@ -182,7 +182,7 @@ opening = terminals.OPEN_CONDS ∷ []
 abbrev closing : List ℕ
 closing = terminals.CLOSE_CONDS ∷ []
 
-abbrev inner : Part
+abbrev inner : Expression
 inner = both one_cond (many other_cond)
 
 pub conds-end : (found : List Cond) (s left : List Tok) → begins opening s ≡ true → begins and_terminal left ≡ false → CondsSoFar found s left

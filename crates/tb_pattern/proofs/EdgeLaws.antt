@@ -1,7 +1,7 @@
 -- Edges are built by their parts.
 use Rattle.std.proofs.Common.{◌≡◌, ℕ, Bool, true, false, ◌≤◌, List, [], ◌∷◌, ◌++◌, length, drop, refl, sym, ap, ◌∙◌, arith, length-drop}
 use Rattle.std.specs.Prelude.{codes}
-use Rattle.tb_token.specs.grammar.Grammar.{Tok, Part, both, maybe, many}
+use Rattle.tb_token.specs.grammar.Grammar.{Tok, Expression, both, maybe, many}
 use Rattle.tb_token.specs.grammar.Sentences.{Tree, nothing, pair}
 use Rattle.tb_token.specs.grammar.Terminals.{sign, comma}
 use Rattle.tb_token.specs.grammar.Patterns.{axis, mark, test, conds, edges, edge, edges_rest}
@@ -87,7 +87,7 @@ before-all (f ∷ fs) = ap (λ es. put (edge_of f) es) (before-all fs)
 abbrev comma_terminal : List ℕ
 comma_terminal = terminals.COMMA ∷ []
 
-abbrev other_edge : Part
+abbrev other_edge : Expression
 other_edge = both comma edge
 
 -- so much of the list is built: an edge, and others behind it
@@ -118,7 +118,7 @@ edges-next found e s mid left is_comma so_far is shorter = record {
 abbrev closing : List ℕ
 closing = terminals.CLOSE ∷ []
 
-abbrev inner : Part
+abbrev inner : Expression
 inner = both edge (many other_edge)
 
 pub edges-end : (found : List Edge) (s left : List Tok) → begins comma_terminal left ≡ false → EdgesSoFar found s left → Builds edges_rest (AreEdges found) s (drop 1 left)

@@ -5,7 +5,7 @@ use Rattle.std.proofs.lemmas.Bool.{and_parts}
 use Rattle.std.proofs.lemmas.Bool.Decides.{nat_tests}
 use Rattle.tb_span.specs.declared.item.Axis.TheVariants.{Child}
 use Rattle.tb_tree.specs.declared.node_test.Test.TheVariants.{Name}
-use Rattle.tb_token.specs.grammar.Grammar.{Tok, Part, both, maybe, many, has}
+use Rattle.tb_token.specs.grammar.Grammar.{Tok, Expression, both, maybe, many, has}
 use Rattle.tb_token.specs.grammar.Sentences.{Tree, leaf, nothing, pair, first, second, Derives, at_end, by_one, by_both, by_first, by_second, left_out, put_in, no_more, one_more, by_rule}
 use Rattle.tb_token.proofs.grammar.TerminalLaws.{none-true, has-only, apart-none}
 use Rattle.tb_token.specs.grammar.Terminals.{comma}
@@ -32,7 +32,7 @@ abbrev all_leaves : List Tree → List ℕ
 all_leaves [] = []
 all_leaves (v ∷ vs) = leaves v (all_leaves vs)
 
-leaves-derived : {ps : List Part} {vs : List Tree} {s : List Tok} → Derives rules ps vs s → all_leaves vs ≡ terminals_of s
+leaves-derived : {ps : List Expression} {vs : List Tree} {s : List Tok} → Derives rules ps vs s → all_leaves vs ≡ terminals_of s
 leaves-derived at_end = refl
 leaves-derived (by_one {t = t} h d) = ap (λ xs. t.terminal ∷ xs) (leaves-derived d)
 leaves-derived (by_both d) = leaves-derived d
@@ -90,7 +90,7 @@ quiet-terminal depth x rest none =
     ap (λ n. max depth (most_open n rest)) same ∙ fewer
 
 -- a part without brackets opens none
-quiet-open : {p : Part} {v : Tree} → Of p v → lacks brackets p ≡ true → (depth : ℕ) (rest : List ℕ) → most_open depth (leaves v rest) ≡ most_open depth rest
+quiet-open : {p : Expression} {v : Tree} → Of p v → lacks brackets p ≡ true → (depth : ℕ) (rest : List ℕ) → most_open depth (leaves v rest) ≡ most_open depth rest
 quiet-open (of_one {c = c} {t = t} h) e depth rest = quiet-terminal depth t.terminal rest (apart-none c brackets t.terminal e h)
 quiet-open (of_both {p = p} {q = q} {w = w} f g) e depth rest =
     let parts = and_parts (lacks brackets p) (lacks brackets q) e in

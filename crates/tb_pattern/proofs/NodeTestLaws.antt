@@ -1,7 +1,7 @@
 -- A test is built by its first token.
 use Rattle.std.proofs.Common.{◌≡◌, ℕ, true, false, List, [], ◌∷◌, drop, refl, ap, ◌∙◌}
 use Rattle.std.specs.Prelude.{codes}
-use Rattle.tb_token.specs.grammar.Grammar.{Tok, Part, both, either}
+use Rattle.tb_token.specs.grammar.Grammar.{Tok, Expression, both, either}
 use Rattle.tb_token.specs.grammar.Sentences.{pair, first, second}
 use Rattle.tb_token.specs.grammar.Terminals.{sign, name, text_test}
 use Rattle.tb_token.specs.grammar.Patterns.{test}
@@ -22,13 +22,13 @@ at_sign = terminals.AT ∷ []
 abbrev text_terminal : List ℕ
 text_terminal = terminals.TEXT_TEST ∷ []
 
-abbrev attr_test : Part
+abbrev attr_test : Expression
 attr_test = both (sign (codes "@")) attribute
 
-abbrev attr_or_text : Part
+abbrev attr_or_text : Expression
 attr_or_text = either attr_test text_test
 
-abbrev no_name : Part
+abbrev no_name : Expression
 no_name = either (sign (codes "*")) attr_or_text
 
 module _ (s : List Tok) where

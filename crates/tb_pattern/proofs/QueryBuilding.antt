@@ -23,7 +23,7 @@ use Rattle.tb_pattern.proofs.BuildingLaws.{some-none, one-builds, Both, both-bui
 use Rattle.tb_pattern.proofs.EdgeLaws.{rest-builds}
 
 -- a query of this document and these edges
-record Query (document : List ℕ) (es : PlainEdges) (v : Tree) : Type 0 where
+record MatchTree (document : List ℕ) (es : PlainEdges) (v : Tree) : Type 0 where
   document_is : document ≡ document_of v
   edges_are : es ≡ pattern_of v
 
@@ -55,7 +55,7 @@ module _ (s : List Tok) (es : List Edge) (left : List Tok) where
   abbrev Behind : Tree → Type 0
   Behind = Both Doc (AreBelow es)
 
-  query-is : (v : Tree) → Both (Next s) Behind v → Query (inside (bytes_in (next s3))) (edges_of es) v
+  query-is : (v : Tree) → Both (Next s) Behind v → MatchTree (inside (bytes_in (next s3))) (edges_of es) v
   query-is v b =
       let behind = b.two_is in
       let d = behind.one_is in
@@ -69,9 +69,9 @@ module _ (s : List Tok) (es : List Edge) (left : List Tok) where
         edges_are = behind.two_is ∙ sym (ap pattern_of same);
       }
 
-  query-builds : Builds edges_rest (AreEdges es) (drop 1 s5) left → Builds match_query (Query (inside (bytes_in (next s3))) (edges_of es)) s left
+  query-builds : Builds edges_rest (AreEdges es) (drop 1 s5) left → Builds match_query (MatchTree (inside (bytes_in (next s3))) (edges_of es)) s left
   query-builds rest_is =
-      builds-as match_query (Both (Next s) Behind) (Query (inside (bytes_in (next s3))) (edges_of es)) s left query-is
+      builds-as match_query (Both (Next s) Behind) (MatchTree (inside (bytes_in (next s3))) (edges_of es)) s left query-is
       (both-builds (keyword (codes "MATCH")) (both doc edges) (Next s) Behind s s1 left (one-builds (terminals.MATCH ∷ []) s)
       (both-builds doc edges Doc (AreBelow es) s1 s5 left
       (both-builds (keyword (codes "DOCUMENT")) (both (sign (codes "(")) (both string (sign (codes ")")))) (Next s1) Open s1 s2 s5 (one-builds (terminals.DOCUMENT ∷ []) s1)

@@ -1,6 +1,6 @@
 -- The law of a list in the grammar: a part any number of times, built one after the other.
 use Rattle.std.proofs.Common.{◌≡◌, ℕ, Bool, true, false, ◌≤◌, ◌-◌, List, [], ◌∷◌, ◌++◌, length, drop, Some, refl, sym, ap, ◌∙◌, append_assoc, append-nil, length-drop, arith}
-use Rattle.tb_token.specs.grammar.Grammar.{Tok, Part, one, both, many}
+use Rattle.tb_token.specs.grammar.Grammar.{Tok, Expression, one, both, many}
 use Rattle.tb_token.specs.grammar.Terminals.{list_of}
 use Rattle.tb_token.specs.grammar.Sentences.{Tree, nothing, pair, Derives, by_both, no_more, one_more}
 use Rattle.tb_token.specs.grammar.Reading.{is_never_empty, first_set, read}
@@ -10,20 +10,20 @@ use Rattle.tb_pattern.specs.Building.{next, begins, Come, IsBuilt, Builds}
 use Rattle.tb_pattern.proofs.BuildingLaws.{false-true, come-as, one-builds, Both, both-builds, builds-as}
 
 -- `put` puts what was found before a value, and `more` is the value of a repetition's tree.
-module _ (p : Part) {A B : Type 0} (put : B → A → A) (more : Tree → A) where
-  pub record IsRun (old found : B) (ps : List Part) (s left : List Tok) (behind : Tree) : Type 0 where
+module _ (p : Expression) {A B : Type 0} (put : B → A → A) (more : Tree → A) where
+  pub record IsRun (old found : B) (ps : List Expression) (s left : List Tok) (behind : Tree) : Type 0 where
     pub tree : Tree
     pub value : put old (more tree) ≡ put found (more behind)
     pub derived : (vs : List Tree) → Derives rules (many p ∷ ps) (behind ∷ vs) left → Derives rules (many p ∷ ps) (tree ∷ vs) s
 
-  pub record Runs (old found : B) (ps : List Part) (s left : List Tok) : Type 0 where
+  pub record Runs (old found : B) (ps : List Expression) (s left : List Tok) : Type 0 where
     pub minus : Bool
     pub behind : Come minus (many p ∷ ps) left
     pub made : (w : Tree) → IsRun old found ps s left w
 
   -- so much of the repetition is built, whatever comes behind it
   abbrev pub BuildsRun : B → B → List Tok → List Tok → Type 0
-  BuildsRun old found s left = (ps : List Part) (minus : Bool) → Come minus (many p ∷ ps) s → Runs old found ps s left
+  BuildsRun old found s left = (ps : List Expression) (minus : Bool) → Come minus (many p ∷ ps) s → Runs old found ps s left
 
   -- one more was put behind what was found
   abbrev pub Adds : B → B → Tree → Type 0
@@ -54,7 +54,7 @@ module _ (p : Part) {A B : Type 0} (put : B → A → A) (more : Tree → A) whe
             record { tree = l.tree; value = l.value ∙ b.is w; derived = λ vs d. l.derived vs (one_more (b.derived (w ∷ vs) d)) };
       }
 
-  run-ends : (old found : B) (ps : List Part) (s left : List Tok) (l : Runs old found ps s left) → read rules left (Some (many p ∷ ps)) ≡ read rules left (Some ps)
+  run-ends : (old found : B) (ps : List Expression) (s left : List Tok) (l : Runs old found ps s left) → read rules left (Some (many p ∷ ps)) ≡ read rules left (Some ps)
       → IsBuilt (many p) (AddsAll old found) ps s left
   run-ends old found ps s left l e =
       let r = l.made nothing in
@@ -90,14 +90,14 @@ abbrev pub put : {A : Type 0} → List A → List A → List A
 put found behind = found ++ behind
 
 -- A token and then the part is built by the part behind the token.
-pub behind-builds : (c : List ℕ) (p : Part) (P Q : Tree → Type 0) (s left : List Tok) → ((a v : Tree) → P v → Q (pair a v)) → Builds p P (drop 1 s) left → Builds (both (one c) p) Q s left
+pub behind-builds : (c : List ℕ) (p : Expression) (P Q : Tree → Type 0) (s left : List Tok) → ((a v : Tree) → P v → Q (pair a v)) → Builds p P (drop 1 s) left → Builds (both (one c) p) Q s left
 behind-builds c p P Q s left says is =
     builds-as (both (one c) p) (Both (λ v. v ≡ next s) P) Q s left
     (λ v b. rw b.pair_is (says b.one b.two b.two_is))
     (both-builds (one c) p (λ v. v ≡ next s) P s (drop 1 s) left (one-builds c s) is)
 
 -- A repetition that stands for a list of items, where `more` is the list of its tree.
-module _ (p : Part) {A : Type 0} (more : Tree → List A) where
+module _ (p : Expression) {A : Type 0} (more : Tree → List A) where
   abbrev pub ListSoFar : List A → List A → List Tok → List Tok → Type 0
   ListSoFar = SoFar p put more
 
@@ -122,7 +122,7 @@ module _ (p : Part) {A : Type 0} (more : Tree → List A) where
       (run-end p put more old found s left e far.built)
 
 -- The same where each item has a part of its own, which `from` reads, alone or behind a token.
-module _ (item : Part) {A : Type 0} (from : Tree → List A → List A) (more : Tree → List A) where
+module _ (item : Expression) {A : Type 0} (from : Tree → List A → List A) (more : Tree → List A) where
   abbrev pub IsItem : A → Tree → Type 0
   IsItem is v = (behind : List A) → from v behind ≡ is ∷ behind
 
@@ -152,10 +152,10 @@ module _ (item : Part) {A : Type 0} (from : Tree → List A → List A) (more : 
 
 -- A part once or more is the part any number of times, with the same tree.
 
-as-many : {p : Part} {ps : List Part} {x : Tree} {vs : List Tree} {s : List Tok} → Derives rules (both p (many p) ∷ ps) (x ∷ vs) s → Derives rules (many p ∷ ps) (x ∷ vs) s
+as-many : {p : Expression} {ps : List Expression} {x : Tree} {vs : List Tree} {s : List Tok} → Derives rules (both p (many p) ∷ ps) (x ∷ vs) s → Derives rules (many p ∷ ps) (x ∷ vs) s
 as-many (by_both d) = one_more d
 
-pub many-built : (p : Part) (P Q : Tree → Type 0) (s left : List Tok) → is_never_empty p ≡ true → begins (first_set p) s ≡ true → ((v : Tree) → P v → Q v)
+pub many-built : (p : Expression) (P Q : Tree → Type 0) (s left : List Tok) → is_never_empty p ≡ true → begins (first_set p) s ≡ true → ((v : Tree) → P v → Q v)
     → Builds (both p (many p)) P s left → Builds (many p) Q s left
 many-built p P Q [] left filled e says is ps minus come = false-true e
 many-built p P Q (t ∷ u) left filled e says is ps minus come =
@@ -170,7 +170,7 @@ many-built p P Q (t ∷ u) left filled e says is ps minus come =
     }
 
 -- it is not there
-pub many-none : (p : Part) (s : List Tok) → begins (first_set p) s ≡ false → Builds (many p) (λ v. v ≡ nothing) s s
+pub many-none : (p : Expression) (s : List Tok) → begins (first_set p) s ≡ false → Builds (many p) (λ v. v ≡ nothing) s s
 many-none p [] e ps minus come = record {
   minus = minus;
   behind = come-as minus (many p ∷ ps) ps [] refl come;

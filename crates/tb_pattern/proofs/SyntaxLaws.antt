@@ -8,12 +8,12 @@ use Rattle.tb_token.proofs.grammar.RuleLaws.{calls, Agree, sentence-by, wrong-by
 use Rattle.tb_token.specs.grammar.Terminals.{name}
 use Rattle.tb_token.specs.grammar.Patterns.{edges_rest, match_query}
 use Rattle.tb_token.specs.grammar.Queries.{rules, follow}
-use Rattle.tb_token.specs.reading.View.{part_of, rules_of}
+use Rattle.tb_token.specs.reading.View.{expression_of, rules_of}
 use Rattle.tb_token.specs.reading.Calls.{FirstWrong, Says, IsRead}
-use Rattle.tb_token.specs.declared.reader.part.Grammar.{Grammar}
+use Rattle.tb_token.specs.declared.reader.expression.Grammar.{Grammar}
 use Rattle.tb_pattern.specs.Syntax.{match_rules}
 
-pub says-match : (g : Grammar) → part_of g.start.now ≡ match_query → rules_of g 0 ≡ edges_rest → ((n : ℕ) → rules_of g (suc n) ≡ name) → Says g match_rules match_query
+pub says-match : (g : Grammar) → expression_of g.start.now ≡ match_query → rules_of g 0 ≡ edges_rest → ((n : ℕ) → rules_of g (suc n) ≡ name) → Says g match_rules match_query
 says-match g start first others = record { each_rule = each; start_is = start }
   where
     each : (n : ℕ) → rules_of g n ≡ match_rules n

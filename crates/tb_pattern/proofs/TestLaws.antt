@@ -1,7 +1,7 @@
 -- The tests that are written are the nodes of the pattern that is asked for.
 use Rattle.std.proofs.Common.{◌≡◌, ℕ, ◌+◌, Bool, true, false, cond, List, [], ◌∷◌, refl, ap, arith}
 use Rattle.std.proofs.lemmas.Bool.{and_parts}
-use Rattle.tb_token.specs.grammar.Grammar.{Tok, Part, both, maybe, many, has}
+use Rattle.tb_token.specs.grammar.Grammar.{Tok, Expression, both, maybe, many, has}
 use Rattle.tb_token.specs.grammar.Sentences.{Tree, leaf, nothing, pair, first, second, Derives, at_end, by_one, by_both, by_first, by_second, left_out, put_in, no_more, one_more, by_rule}
 use Rattle.tb_token.specs.grammar.LL1.{are_apart}
 use Rattle.tb_token.proofs.grammar.TerminalLaws.{none-true, apart-none}
@@ -32,7 +32,7 @@ count-one : (b : Bool) (m n : ℕ) → m ≡ n → cond b 1 0 + m ≡ cond b (1 
 count-one true m n e = omega arith
 count-one false m n e = omega arith
 
-axes-derived : {ps : List Part} {vs : List Tree} {s : List Tok} → Derives rules ps vs s → all_axes vs ≡ tests_in (terminals_of s)
+axes-derived : {ps : List Expression} {vs : List Tree} {s : List Tok} → Derives rules ps vs s → all_axes vs ≡ tests_in (terminals_of s)
 axes-derived at_end = refl
 axes-derived (by_one {t = t} h d) = count-one (has terminals.AXES t.terminal) _ _ (axes-derived d)
 axes-derived (by_both d) = let e = axes-derived d in omega arith
@@ -49,7 +49,7 @@ axes-derived (by_rule {t = t} h d) =
 quiet-leaf : (c : List ℕ) (t : Tok) → are_apart c terminals.AXES ≡ true → has c t.terminal ≡ true → axes (leaf t) ≡ 0
 quiet-leaf c t apart h = ap (λ b. cond b 1 0) (apart-none c terminals.AXES t.terminal apart h)
 
-quiet-none : {p : Part} {v : Tree} → Of p v → lacks terminals.AXES p ≡ true → axes v ≡ 0
+quiet-none : {p : Expression} {v : Tree} → Of p v → lacks terminals.AXES p ≡ true → axes v ≡ 0
 quiet-none (of_one {c = c} {t = t} h) e = quiet-leaf c t e h
 quiet-none (of_both {p = p} {q = q} f g) e =
     let parts = and_parts (lacks terminals.AXES p) (lacks terminals.AXES q) e in

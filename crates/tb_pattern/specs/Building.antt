@@ -1,6 +1,6 @@
 -- What the program builds of a query without fault, from the beginning of its tokens on.
 use Rattle.std.specs.Prelude.{◌≡◌, ℕ, Bool, false, List, [], ◌∷◌, Some, None}
-use Rattle.tb_token.specs.grammar.Grammar.{Tok, Part, has}
+use Rattle.tb_token.specs.grammar.Grammar.{Tok, Expression, has}
 use Rattle.tb_token.specs.grammar.Sentences.{Tree, leaf, nothing, Derives}
 use Rattle.tb_token.specs.grammar.Reading.{read}
 use Rattle.tb_token.specs.tokens.Lexemes.{HaveDigits}
@@ -22,13 +22,13 @@ begins cs (t ∷ s) = has cs t.terminal
 
 -- These parts come next and nothing behind them, and no number is past its range, be there a `-`
 -- before the first token or not.
-pub record Come (minus : Bool) (ps : List Part) (s : List Tok) : Type 0 where
+pub record Come (minus : Bool) (ps : List Expression) (s : List Tok) : Type 0 where
   pub parts : read rules s (Some ps) ≡ None
   pub digits : HaveDigits s
   pub numbers : past_behind minus s ≡ None
 
 -- the part stands at the beginning, its tree is such a one, and the other parts come next
-pub record IsBuilt (p : Part) (Is : Tree → Type 0) (ps : List Part) (s left : List Tok)
+pub record IsBuilt (p : Expression) (Is : Tree → Type 0) (ps : List Expression) (s left : List Tok)
     : Type 0 where
   pub minus : Bool
   pub behind : Come minus ps left
@@ -37,10 +37,10 @@ pub record IsBuilt (p : Part) (Is : Tree → Type 0) (ps : List Part) (s left : 
   pub derived : (vs : List Tree) → Derives rules ps vs left → Derives rules (p ∷ ps) (tree ∷ vs) s
 
 -- wherever the part comes next, whatever comes behind it
-abbrev pub Builds : Part → (Tree → Type 0) → List Tok → List Tok → Type 0
+abbrev pub Builds : Expression → (Tree → Type 0) → List Tok → List Tok → Type 0
 Builds p Is s left =
-    (ps : List Part) (minus : Bool) → Come minus (p ∷ ps) s → IsBuilt p Is ps s left
+    (ps : List Expression) (minus : Bool) → Come minus (p ∷ ps) s → IsBuilt p Is ps s left
 
 -- likewise where no `-` stands before it
-abbrev pub BuildsApart : Part → (Tree → Type 0) → List Tok → List Tok → Type 0
-BuildsApart p Is s left = (ps : List Part) → Come false (p ∷ ps) s → IsBuilt p Is ps s left
+abbrev pub BuildsApart : Expression → (Tree → Type 0) → List Tok → List Tok → Type 0
+BuildsApart p Is s left = (ps : List Expression) → Come false (p ∷ ps) s → IsBuilt p Is ps s left

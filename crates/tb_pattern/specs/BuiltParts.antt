@@ -1,7 +1,7 @@
 -- Which trees the values that the program builds stand for, part by part.
 use Rattle.std.specs.Prelude.{◌≡◌, ℕ, Bool, false, List, [], ◌∷◌, codes, pos}
 use Rattle.std.specs.Option.{unwrap_or}
-use Rattle.tb_token.specs.grammar.Grammar.{Tok, Part, both, either}
+use Rattle.tb_token.specs.grammar.Grammar.{Tok, Expression, both, either}
 use Rattle.tb_token.specs.grammar.Sentences.{Tree, pair, first, second}
 use Rattle.tb_token.specs.grammar.Patterns.{cmp, literal, match_query}
 use Rattle.tb_token.specs.grammar.Terminals.{sign, name}
@@ -19,7 +19,7 @@ use Rattle.tb_pattern.specs.declared.pattern.Edge.{Edge}
 use Rattle.tb_pattern.specs.declared.pattern.Pattern.{Pattern}
 
 -- NAME | "*", behind `@`
-abbrev pub attribute : Part
+abbrev pub attribute : Expression
 attribute = either name (sign (codes "*"))
 
 -- whatever the `@` before it
@@ -34,7 +34,7 @@ abbrev pub number_or_zero : Bool → List ℕ → Literal
 number_or_zero minus digits = a.Number (unwrap_or (literal_in minus digits) (pos 0))
 
 -- cmp literal
-abbrev pub one_cond : Part
+abbrev pub one_cond : Expression
 one_cond = both cmp literal
 
 abbrev pub IsLiteral : Literal → Tree → Type 0
@@ -48,7 +48,7 @@ abbrev pub AreConds : List Cond → Tree → Type 0
 AreConds are v = conds_of v ≡ are
 
 -- "!"
-abbrev pub bang : Part
+abbrev pub bang : Expression
 bang = sign (codes "!")
 
 abbrev pub IsWhole : Bool → Tree → Type 0

@@ -1,97 +1,106 @@
 //! The grammar of `MATCH` queries as a value, production by production as docs/FORMATS.md has it. A
 //! contract holds it against the grammar of `tb_token`.
 
-use tb_token::{Part, terminals};
+use tb_token::{Expression, terminals};
 
 // NAME, or any keyword in its place
-pub const NAME: Part = Part::One(terminals::NAMES);
+pub const NAME: Expression = Expression::One(terminals::NAMES);
 
-const NUMBER: Part = Part::One(&[terminals::NUMBER]);
+const NUMBER: Expression = Expression::One(&[terminals::NUMBER]);
 
-pub const STRING: Part = Part::One(&[terminals::QUOTED]);
+pub const STRING: Expression = Expression::One(&[terminals::QUOTED]);
 
-const TEXT: Part = Part::One(&[terminals::TEXT_TEST]);
+const TEXT: Expression = Expression::One(&[terminals::TEXT_TEST]);
 
-const BANG: Part = Part::One(&[terminals::BANG]);
+const BANG: Expression = Expression::One(&[terminals::BANG]);
 
-pub const OPEN: Part = Part::One(&[terminals::OPEN]);
+pub const OPEN: Expression = Expression::One(&[terminals::OPEN]);
 
-pub const CLOSE: Part = Part::One(&[terminals::CLOSE]);
+pub const CLOSE: Expression = Expression::One(&[terminals::CLOSE]);
 
-const OPEN_CONDS: Part = Part::One(&[terminals::OPEN_CONDS]);
+const OPEN_CONDS: Expression = Expression::One(&[terminals::OPEN_CONDS]);
 
-const CLOSE_CONDS: Part = Part::One(&[terminals::CLOSE_CONDS]);
+const CLOSE_CONDS: Expression = Expression::One(&[terminals::CLOSE_CONDS]);
 
-pub const COMMA: Part = Part::One(&[terminals::COMMA]);
+pub const COMMA: Expression = Expression::One(&[terminals::COMMA]);
 
-const AT: Part = Part::One(&[terminals::AT]);
+const AT: Expression = Expression::One(&[terminals::AT]);
 
-const STAR: Part = Part::One(&[terminals::STAR]);
+const STAR: Expression = Expression::One(&[terminals::STAR]);
 
-const MINUS: Part = Part::One(&[terminals::MINUS]);
+const MINUS: Expression = Expression::One(&[terminals::MINUS]);
 
-pub const AND: Part = Part::One(&[terminals::AND]);
+pub const AND: Expression = Expression::One(&[terminals::AND]);
 
-const MATCH: Part = Part::One(&[terminals::MATCH]);
+const MATCH: Expression = Expression::One(&[terminals::MATCH]);
 
-const DOCUMENT: Part = Part::One(&[terminals::DOCUMENT]);
+const DOCUMENT: Expression = Expression::One(&[terminals::DOCUMENT]);
 
-pub const AXIS: Part = Part::One(terminals::AXES);
+pub const AXIS: Expression = Expression::One(terminals::AXES);
 
-const MARK: Part = Part::One(terminals::MARKS);
+const MARK: Expression = Expression::One(terminals::MARKS);
 
-pub const CMP: Part = Part::One(terminals::COMPARISONS);
+pub const CMP: Expression = Expression::One(terminals::COMPARISONS);
 
 // doc = DOCUMENT "(" STRING ")"
-pub const DOC: Part = Part::Both(&DOCUMENT, &Part::Both(&OPEN, &Part::Both(&STRING, &CLOSE)));
+pub const DOC: Expression = Expression::Both(
+    &DOCUMENT,
+    &Expression::Both(&OPEN, &Expression::Both(&STRING, &CLOSE)),
+);
 
 // "@" ( NAME | "*" )
-const ATTRIBUTE: Part = Part::Both(&AT, &Part::Either(&NAME, &STAR));
+const ATTRIBUTE: Expression = Expression::Both(&AT, &Expression::Either(&NAME, &STAR));
 
 // test = NAME | "*" | "@" ( NAME | "*" ) | TEXT
-pub const TEST: Part = Part::Either(
+pub const TEST: Expression = Expression::Either(
     &NAME,
-    &Part::Either(&STAR, &Part::Either(&ATTRIBUTE, &TEXT)),
+    &Expression::Either(&STAR, &Expression::Either(&ATTRIBUTE, &TEXT)),
 );
 
 // literal = STRING | [ "-" ] NUMBER
-pub const LITERAL: Part = Part::Either(&STRING, &Part::Both(&Part::Maybe(&MINUS), &NUMBER));
+pub const LITERAL: Expression = Expression::Either(
+    &STRING,
+    &Expression::Both(&Expression::Maybe(&MINUS), &NUMBER),
+);
 
 // cmp literal
-const ONE_COND: Part = Part::Both(&CMP, &LITERAL);
+const ONE_COND: Expression = Expression::Both(&CMP, &LITERAL);
 
 // conds = "[" cmp literal { AND cmp literal } "]"
-const CONDS: Part = Part::Both(
+const CONDS: Expression = Expression::Both(
     &OPEN_CONDS,
-    &Part::Both(
-        &Part::Both(&ONE_COND, &Part::Many(&Part::Both(&AND, &ONE_COND))),
+    &Expression::Both(
+        &Expression::Both(
+            &ONE_COND,
+            &Expression::Many(&Expression::Both(&AND, &ONE_COND)),
+        ),
         &CLOSE_CONDS,
     ),
 );
 
 // edges = "(" and the rest of the edges, which is rule 0
-const EDGES: Part = Part::Opened(&[terminals::OPEN], 0);
+const EDGES: Expression = Expression::Opened(&[terminals::OPEN], 0);
 
 // edge = axis mark test [ conds ] [ "!" ] [ edges ]
-const EDGE: Part = Part::Both(
+const EDGE: Expression = Expression::Both(
     &AXIS,
-    &Part::Both(
+    &Expression::Both(
         &MARK,
-        &Part::Both(
+        &Expression::Both(
             &TEST,
-            &Part::Both(
-                &Part::Maybe(&CONDS),
-                &Part::Both(&Part::Maybe(&BANG), &Part::Maybe(&EDGES)),
+            &Expression::Both(
+                &Expression::Maybe(&CONDS),
+                &Expression::Both(&Expression::Maybe(&BANG), &Expression::Maybe(&EDGES)),
             ),
         ),
     ),
 );
 
 // edge { "," edge } ")"
-pub const EDGES_REST: Part = Part::Both(
-    &Part::Both(&EDGE, &Part::Many(&Part::Both(&COMMA, &EDGE))),
+pub const EDGES_REST: Expression = Expression::Both(
+    &Expression::Both(&EDGE, &Expression::Many(&Expression::Both(&COMMA, &EDGE))),
     &CLOSE,
 );
 
 // match = MATCH doc edges
-pub const MATCH_QUERY: Part = Part::Both(&MATCH, &Part::Both(&DOC, &EDGES));
+pub const MATCH_QUERY: Expression = Expression::Both(&MATCH, &Expression::Both(&DOC, &EDGES));

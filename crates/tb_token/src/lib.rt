@@ -21,7 +21,7 @@ pub use lexer::nesting::is_too_nested;
 pub use lexer::terminals;
 pub use lexer::token::{Kind, Token};
 pub use query_laws::laws_of_queries;
-pub use reader::part::{Grammar, Part};
+pub use reader::expression::{Expression, Grammar};
 pub use reader::wrong::first_wrong;
 
 #[cfg(test)]

@@ -2,7 +2,7 @@
 use Rattle.std.proofs.Common.{◌≡◌, ℕ, ◌+◌, ◌-◌, ◌<◌, ◌≤◌, Bool, true, false, cond, ◌&&◌, ◌||◌, List, [], ◌∷◌, ◌++◌, length, drop, Option, Some, None, refl, ap, ◌∙◌, arith, length-drop}
 use Rattle.std.proofs.lemmas.Bool.{or_parts}
 use Rattle.std.proofs.lemmas.List.{drop_all}
-use Rattle.tb_token.specs.grammar.Grammar.{Tok, Part, one, both, either, maybe, many, opened, Rules, has}
+use Rattle.tb_token.specs.grammar.Grammar.{Tok, Expression, one, both, either, maybe, many, opened, Rules, has}
 use Rattle.tb_token.specs.grammar.Sentences.{Tree, leaf, nothing, pair, first, second, by_one, by_both, by_first, by_second, left_out, put_in, no_more, one_more, by_rule, at_end, IsWrongAt}
 use Rattle.tb_token.specs.grammar.Reading.{is_never_empty, may_end, first_set_before, first_set, takes, after, read}
 use Rattle.tb_token.specs.grammar.LL1.{AreLL1, AreGood}
@@ -28,7 +28,7 @@ not-right xs ys x none = by (has ys x) refl
     by false e = refl
 
 -- what may follow a part that may be empty is in its FIRST
-first_set_before-behind : (p : Part) (xs : List ℕ) (x : ℕ) → is_never_empty p ≡ false → has (first_set_before p xs) x ≡ false → has xs x ≡ false
+first_set_before-behind : (p : Expression) (xs : List ℕ) (x : ℕ) → is_never_empty p ≡ false → has (first_set_before p xs) x ≡ false → has xs x ≡ false
 first_set_before-behind (one c) xs x empty none = none-true true empty refl
 first_set_before-behind (both p q) xs x empty none =
     let parts = or_parts (is_never_empty p) (is_never_empty q) empty in
@@ -47,7 +47,7 @@ cond-same true x = refl
 cond-same false x = refl
 
 module _ (rules : Rules) where
-  takes-none : (p : Part) (xs : List ℕ) (x : ℕ) (ps : List Part) → has (first_set_before p xs) x ≡ false → takes rules p x ps None ≡ None
+  takes-none : (p : Expression) (xs : List ℕ) (x : ℕ) (ps : List Expression) → has (first_set_before p xs) x ≡ false → takes rules p x ps None ≡ None
   takes-none (one c) xs x ps none = rw none refl
   takes-none (both p q) xs x ps none =
       by (is_never_empty p) refl (takes-none p (first_set_before q xs) x (q ∷ ps) none) (λ e. takes-none q xs x ps (first_set_before-behind p (first_set_before q xs) x e none))
@@ -69,14 +69,14 @@ module _ (rules : Rules) where
 
   -- How the reading of a part is that of its parts.
 
-  pub read-end : (p : Part) (ps : List Part) → is_never_empty p ≡ true → read rules [] (Some (p ∷ ps)) ≡ Some 0
+  pub read-end : (p : Expression) (ps : List Expression) → is_never_empty p ≡ true → read rules [] (Some (p ∷ ps)) ≡ Some 0
   read-end p ps never_empty = rw never_empty refl
 
-  pub read-stop : (p : Part) (t : Tok) (u : List Tok) (ps : List Part) → is_never_empty p ≡ true → has (first_set p) t.terminal ≡ false → read rules (t ∷ u) (Some (p ∷ ps)) ≡ Some (1 + length u)
+  pub read-stop : (p : Expression) (t : Tok) (u : List Tok) (ps : List Expression) → is_never_empty p ≡ true → has (first_set p) t.terminal ≡ false → read rules (t ∷ u) (Some (p ∷ ps)) ≡ Some (1 + length u)
   read-stop p t u ps never_empty none =
       ap (λ o. read rules u o) (takes-never_empty rules p t.terminal ps (after rules ps t.terminal) None never_empty ∙ takes-none p [] t.terminal ps none)
 
-  pub read-both : (p q : Part) (u : List Tok) (ps : List Part) → read rules u (Some (both p q ∷ ps)) ≡ read rules u (Some (p ∷ q ∷ ps))
+  pub read-both : (p q : Expression) (u : List Tok) (ps : List Expression) → read rules u (Some (both p q ∷ ps)) ≡ read rules u (Some (p ∷ q ∷ ps))
   read-both p q [] ps = by (is_never_empty p) (is_never_empty q) (may_end ps)
     where
       by : (a b e : Bool) → ◌≡◌ {A = Option ℕ} (cond (cond (a || b) false true && e) None (Some 0)) (cond (cond a false true && (cond b false true && e)) None (Some 0))
@@ -84,43 +84,43 @@ module _ (rules : Rules) where
       by false b e = refl
   read-both p q (t ∷ u) ps = refl
 
-  pub read-first : (p q : Part) (t : Tok) (u : List Tok) (ps : List Part) → has (first_set p) t.terminal ≡ true → read rules (t ∷ u) (Some (either p q ∷ ps)) ≡ read rules (t ∷ u) (Some (p ∷ ps))
+  pub read-first : (p q : Expression) (t : Tok) (u : List Tok) (ps : List Expression) → has (first_set p) t.terminal ≡ true → read rules (t ∷ u) (Some (either p q ∷ ps)) ≡ read rules (t ∷ u) (Some (p ∷ ps))
   read-first p q t u ps here =
       let e : after rules (either p q ∷ ps) t.terminal ≡ after rules (p ∷ ps) t.terminal = rw here refl in
       ap (λ o. read rules u o) e
 
-  pub read-second : (p q : Part) (t : Tok) (u : List Tok) (ps : List Part) → has (first_set p) t.terminal ≡ false → read rules (t ∷ u) (Some (either p q ∷ ps)) ≡ read rules (t ∷ u) (Some (q ∷ ps))
+  pub read-second : (p q : Expression) (t : Tok) (u : List Tok) (ps : List Expression) → has (first_set p) t.terminal ≡ false → read rules (t ∷ u) (Some (either p q ∷ ps)) ≡ read rules (t ∷ u) (Some (q ∷ ps))
   read-second p q t u ps other =
       let e : after rules (either p q ∷ ps) t.terminal ≡ after rules (q ∷ ps) t.terminal = rw other refl in
       ap (λ o. read rules u o) e
 
-  pub read-put_in : (p : Part) (t : Tok) (u : List Tok) (ps : List Part) → has (first_set p) t.terminal ≡ true → read rules (t ∷ u) (Some (maybe p ∷ ps)) ≡ read rules (t ∷ u) (Some (p ∷ ps))
+  pub read-put_in : (p : Expression) (t : Tok) (u : List Tok) (ps : List Expression) → has (first_set p) t.terminal ≡ true → read rules (t ∷ u) (Some (maybe p ∷ ps)) ≡ read rules (t ∷ u) (Some (p ∷ ps))
   read-put_in p t u ps here =
       let e : after rules (maybe p ∷ ps) t.terminal ≡ after rules (p ∷ ps) t.terminal = rw here refl in
       ap (λ o. read rules u o) e
 
-  pub read-left_out : (p : Part) (t : Tok) (u : List Tok) (ps : List Part) → has (first_set p) t.terminal ≡ false → read rules (t ∷ u) (Some (maybe p ∷ ps)) ≡ read rules (t ∷ u) (Some ps)
+  pub read-left_out : (p : Expression) (t : Tok) (u : List Tok) (ps : List Expression) → has (first_set p) t.terminal ≡ false → read rules (t ∷ u) (Some (maybe p ∷ ps)) ≡ read rules (t ∷ u) (Some ps)
   read-left_out p t u ps other =
       let e : after rules (maybe p ∷ ps) t.terminal ≡ after rules ps t.terminal = rw other refl in
       ap (λ o. read rules u o) e
 
-  pub read-one_more : (p : Part) (t : Tok) (u : List Tok) (ps : List Part) → is_never_empty p ≡ true → has (first_set p) t.terminal ≡ true → read rules (t ∷ u) (Some (many p ∷ ps)) ≡ read rules (t ∷ u) (Some (p ∷ many p ∷ ps))
+  pub read-one_more : (p : Expression) (t : Tok) (u : List Tok) (ps : List Expression) → is_never_empty p ≡ true → has (first_set p) t.terminal ≡ true → read rules (t ∷ u) (Some (many p ∷ ps)) ≡ read rules (t ∷ u) (Some (p ∷ many p ∷ ps))
   read-one_more p t u ps never_empty here =
       let same = takes-never_empty rules p t.terminal (many p ∷ ps) None (after rules (many p ∷ ps) t.terminal) never_empty in
       let e : after rules (many p ∷ ps) t.terminal ≡ takes rules p t.terminal (many p ∷ ps) None = rw here refl in
       ap (λ o. read rules u o) (e ∙ same)
 
-  pub read-no_more : (p : Part) (t : Tok) (u : List Tok) (ps : List Part) → has (first_set p) t.terminal ≡ false → read rules (t ∷ u) (Some (many p ∷ ps)) ≡ read rules (t ∷ u) (Some ps)
+  pub read-no_more : (p : Expression) (t : Tok) (u : List Tok) (ps : List Expression) → has (first_set p) t.terminal ≡ false → read rules (t ∷ u) (Some (many p ∷ ps)) ≡ read rules (t ∷ u) (Some ps)
   read-no_more p t u ps other =
       let e : after rules (many p ∷ ps) t.terminal ≡ after rules ps t.terminal = rw other refl in
       ap (λ o. read rules u o) e
 
-  pub read-one : (c : List ℕ) (t : Tok) (u : List Tok) (ps : List Part) → has c t.terminal ≡ true → read rules (t ∷ u) (Some (one c ∷ ps)) ≡ read rules u (Some ps)
+  pub read-one : (c : List ℕ) (t : Tok) (u : List Tok) (ps : List Expression) → has c t.terminal ≡ true → read rules (t ∷ u) (Some (one c ∷ ps)) ≡ read rules u (Some ps)
   read-one c t u ps here =
       let e : after rules (one c ∷ ps) t.terminal ≡ Some ps = rw here refl in
       ap (λ o. read rules u o) e
 
-  pub read-rule : (c : List ℕ) (n : ℕ) (t : Tok) (u : List Tok) (ps : List Part) → has c t.terminal ≡ true → read rules (t ∷ u) (Some (opened c n ∷ ps)) ≡ read rules u (Some (rules n ∷ ps))
+  pub read-rule : (c : List ℕ) (n : ℕ) (t : Tok) (u : List Tok) (ps : List Expression) → has c t.terminal ≡ true → read rules (t ∷ u) (Some (opened c n ∷ ps)) ≡ read rules u (Some (rules n ∷ ps))
   read-rule c n t u ps here =
       let e : after rules (opened c n ∷ ps) t.terminal ≡ Some (rules n ∷ ps) = rw here refl in
       ap (λ o. read rules u o) e
@@ -153,7 +153,7 @@ module _ (rules : Rules) (s : List Tok) where
   }
 
   -- a part that is not nullable stops at a token that it does not begin with
-  pub never_empty-stops : (p : Part) (at : ℕ) (t : Tok) → is_never_empty p ≡ true → IsAt s at t → has (first_set p) t.terminal ≡ false → Stops rules s p at at
+  pub never_empty-stops : (p : Expression) (at : ℕ) (t : Tok) → is_never_empty p ≡ true → IsAt s at t → has (first_set p) t.terminal ≡ false → Stops rules s p at at
   never_empty-stops p at t never_empty here none =
       let within = here-within at t here in
       let size : 1 + length (drop (at + 1) s) ≡ length s - at = omega (arith, length-drop (at + 1) s) in
@@ -164,7 +164,7 @@ module _ (rules : Rules) (s : List Tok) where
       }
 
   -- and at the end
-  pub never_empty-ends : (p : Part) (at : ℕ) → is_never_empty p ≡ true → at ≤ length s → drop at s ≡ [] → Stops rules s p at at
+  pub never_empty-ends : (p : Expression) (at : ℕ) → is_never_empty p ≡ true → at ≤ length s → drop at s ≡ [] → Stops rules s p at at
   never_empty-ends p at never_empty within ends =
       let same = none-left at within ends in
       let size : 0 ≡ length s - at = omega arith in
@@ -174,7 +174,7 @@ module _ (rules : Rules) (s : List Tok) where
         off = λ ps. rw ends (read-end rules p ps never_empty ∙ ap (λ n. Some n) size);
       }
 
-  pub both-stands : (p q : Part) (at mid next : ℕ) (v w : Tree) → Stands rules s p at mid v → Stands rules s q mid next w → Stands rules s (both p q) at next (pair v w)
+  pub both-stands : (p q : Expression) (at mid next : ℕ) (v w : Tree) → Stands rules s p at mid v → Stands rules s q mid next w → Stands rules s (both p q) at next (pair v w)
   both-stands p q at mid next v w one_is two_is =
       let low = one_is.from in
       let high = two_is.from in
@@ -185,14 +185,14 @@ module _ (rules : Rules) (s : List Tok) where
         made = λ ps vs d. by_both (one_is.made (q ∷ ps) (w ∷ vs) (two_is.made ps vs d));
       }
 
-  pub both-stops_first : (p q : Part) (at bad : ℕ) → Stops rules s p at bad → Stops rules s (both p q) at bad
+  pub both-stops_first : (p q : Expression) (at bad : ℕ) → Stops rules s p at bad → Stops rules s (both p q) at bad
   both-stops_first p q at bad stops = record {
     from = stops.from;
     to = stops.to;
     off = λ ps. read-both rules p q (drop at s) ps ∙ stops.off (q ∷ ps);
   }
 
-  pub both-stops_second : (p q : Part) (at mid bad : ℕ) (v : Tree) → Stands rules s p at mid v → Stops rules s q mid bad → Stops rules s (both p q) at bad
+  pub both-stops_second : (p q : Expression) (at mid bad : ℕ) (v : Tree) → Stands rules s p at mid v → Stops rules s q mid bad → Stops rules s (both p q) at bad
   both-stops_second p q at mid bad v one_is stops =
       let low = one_is.from in
       let high = stops.from in
@@ -204,8 +204,8 @@ module _ (rules : Rules) (s : List Tok) where
 
   -- The next token chooses.
 
-  module _ (p : Part) (at : ℕ) (t : Tok) (here : IsAt s at t) where
-    pub first-stands : (q : Part) (next : ℕ) (v : Tree) → has (first_set p) t.terminal ≡ true → Stands rules s p at next v → Stands rules s (either p q) at next (first v)
+  module _ (p : Expression) (at : ℕ) (t : Tok) (here : IsAt s at t) where
+    pub first-stands : (q : Expression) (next : ℕ) (v : Tree) → has (first_set p) t.terminal ≡ true → Stands rules s p at next v → Stands rules s (either p q) at next (first v)
     first-stands q next v h is = record {
       from = is.from;
       to = is.to;
@@ -213,14 +213,14 @@ module _ (rules : Rules) (s : List Tok) where
       made = λ ps vs d. by_first (is.made ps vs d);
     }
 
-    pub first-stops : (q : Part) (bad : ℕ) → has (first_set p) t.terminal ≡ true → Stops rules s p at bad → Stops rules s (either p q) at bad
+    pub first-stops : (q : Expression) (bad : ℕ) → has (first_set p) t.terminal ≡ true → Stops rules s p at bad → Stops rules s (either p q) at bad
     first-stops q bad h stops = record {
       from = stops.from;
       to = stops.to;
       off = λ ps. rw here (read-first rules p q t (drop (at + 1) s) ps h) ∙ stops.off ps;
     }
 
-    pub second-stands : (q : Part) (next : ℕ) (v : Tree) → has (first_set p) t.terminal ≡ false → Stands rules s q at next v → Stands rules s (either p q) at next (second v)
+    pub second-stands : (q : Expression) (next : ℕ) (v : Tree) → has (first_set p) t.terminal ≡ false → Stands rules s q at next v → Stands rules s (either p q) at next (second v)
     second-stands q next v h is = record {
       from = is.from;
       to = is.to;
@@ -228,7 +228,7 @@ module _ (rules : Rules) (s : List Tok) where
       made = λ ps vs d. by_second (is.made ps vs d);
     }
 
-    pub second-stops : (q : Part) (bad : ℕ) → has (first_set p) t.terminal ≡ false → Stops rules s q at bad → Stops rules s (either p q) at bad
+    pub second-stops : (q : Expression) (bad : ℕ) → has (first_set p) t.terminal ≡ false → Stops rules s q at bad → Stops rules s (either p q) at bad
     second-stops q bad h stops = record {
       from = stops.from;
       to = stops.to;
@@ -281,7 +281,7 @@ module _ (rules : Rules) (s : List Tok) where
       made = λ ps ws w d. one_more (is.made (many p ∷ ps) (w ∷ ws) d);
     }
 
-  pub left_out-ends : (p : Part) (at : ℕ) → at ≤ length s → drop at s ≡ [] → Stands rules s (maybe p) at at nothing
+  pub left_out-ends : (p : Expression) (at : ℕ) → at ≤ length s → drop at s ≡ [] → Stands rules s (maybe p) at at nothing
   left_out-ends p at within ends = record {
     from = omega arith;
     to = within;
@@ -289,7 +289,7 @@ module _ (rules : Rules) (s : List Tok) where
     made = λ ps vs d. left_out d;
   }
 
-  pub no_more-ends : (p : Part) (at : ℕ) → at ≤ length s → drop at s ≡ [] → Stands rules s (many p) at at nothing
+  pub no_more-ends : (p : Expression) (at : ℕ) → at ≤ length s → drop at s ≡ [] → Stands rules s (many p) at at nothing
   no_more-ends p at within ends = record {
     from = omega arith;
     to = within;
@@ -314,10 +314,10 @@ module _ (rules : Rules) (s : List Tok) where
 
   -- Repetitions, from the left.
 
-  pub repeats-none : (p : Part) (at : ℕ) → at ≤ length s → Repeats rules s p at at []
+  pub repeats-none : (p : Expression) (at : ℕ) → at ≤ length s → Repeats rules s p at at []
   repeats-none p at within = record { from = omega arith; to = within; on = λ ps. refl; made = λ ps ws w d. d }
 
-  pub repeats-append : (p : Part) (at mid next : ℕ) (vs us : List Tree) → Repeats rules s p at mid vs → Repeats rules s p mid next us → Repeats rules s p at next (vs ++ us)
+  pub repeats-append : (p : Expression) (at mid next : ℕ) (vs us : List Tree) → Repeats rules s p at mid vs → Repeats rules s p mid next us → Repeats rules s p at next (vs ++ us)
   repeats-append p at mid next vs us one_is two_is =
       let low = one_is.from in
       let high = two_is.from in
@@ -328,7 +328,7 @@ module _ (rules : Rules) (s : List Tok) where
         made = λ ps ws w d. rw (chain-append vs us w) (one_is.made ps ws (chain us w) (two_is.made ps ws w d));
       }
 
-  pub repeats-stands : (p : Part) (at mid next : ℕ) (vs : List Tree) (w : Tree) → Repeats rules s p at mid vs → Stands rules s (many p) mid next w → Stands rules s (many p) at next (chain vs w)
+  pub repeats-stands : (p : Expression) (at mid next : ℕ) (vs : List Tree) (w : Tree) → Repeats rules s p at mid vs → Stands rules s (many p) mid next w → Stands rules s (many p) at next (chain vs w)
   repeats-stands p at mid next vs w one_is two_is =
       let low = one_is.from in
       let high = two_is.from in
@@ -339,7 +339,7 @@ module _ (rules : Rules) (s : List Tok) where
         made = λ ps ws d. one_is.made ps ws w (two_is.made ps ws d);
       }
 
-  pub repeats-stops : (p : Part) (at mid bad : ℕ) (vs : List Tree) → Repeats rules s p at mid vs → Stops rules s (many p) mid bad → Stops rules s (many p) at bad
+  pub repeats-stops : (p : Expression) (at mid bad : ℕ) (vs : List Tree) → Repeats rules s p at mid vs → Stops rules s (many p) mid bad → Stops rules s (many p) at bad
   repeats-stops p at mid bad vs one_is stops =
       let low = one_is.from in
       let high = stops.from in
@@ -354,7 +354,7 @@ read-nothing rules s next more = by (drop next s) (length-drop next s)
     by [] e = absurd (omega arith)
     by (t ∷ u) e = let size : 1 + length u ≡ length s - next = omega arith in ap (λ n. Some n) size
 
-module _ (rules : Rules) (follow : ℕ → List ℕ) (p : Part) (s : List Tok) (good : AreGood rules follow) (d : AreLL1 follow (p ∷ [])) where
+module _ (rules : Rules) (follow : ℕ → List ℕ) (p : Expression) (s : List Tok) (good : AreGood rules follow) (d : AreLL1 follow (p ∷ [])) where
   wrong-at : (bad : ℕ) → bad ≤ length s → read rules s (Some (p ∷ [])) ≡ Some (length s - bad) → IsWrongAt rules (p ∷ []) s (bad + 1)
   wrong-at bad within e =
       let size : length s - (length s - bad) + 1 ≡ bad + 1 = omega arith in

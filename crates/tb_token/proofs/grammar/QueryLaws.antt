@@ -1,6 +1,6 @@
 -- The grammar of queries is one that the next token decides, and its paths are those of its text.
 use Rattle.std.proofs.Common.{◌≡◌, ℕ, zero, suc, true, List, [], ◌∷◌, refl}
-use Rattle.tb_token.specs.grammar.Grammar.{Tok, Part, one, both, either, many, Rules}
+use Rattle.tb_token.specs.grammar.Grammar.{Tok, Expression, one, both, either, many, Rules}
 use Rattle.tb_token.specs.grammar.Sentences.{Tree, Derives, by_one, by_both, by_first, by_second, no_more, one_more, AreSentence}
 use Rattle.tb_token.specs.grammar.LL1.{is_ll1, is_easy}
 use Rattle.tb_token.proofs.grammar.TreeLaws.{one-tree}
@@ -36,7 +36,7 @@ one-query s v w d e = first-tree v w (one-tree rules follow readable.good readab
 
 -- Whatever stands behind: the prefix may begin with more of a part, or be left alone.
 
-module _ (rules : Rules) (p q : Part) (c : List ℕ) (ps : List Part) where
+module _ (rules : Rules) (p q : Expression) (c : List ℕ) (ps : List Expression) where
   abbrev LL1 : List Tok → Type 0
   LL1 s = AreSentence rules (either (both p (both q (many q))) (both (one c) (many q)) ∷ ps) s
 

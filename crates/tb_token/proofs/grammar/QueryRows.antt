@@ -1,7 +1,7 @@
 -- Texts of queries worked out by hand: where each stops being the prefix of a query.
 use Rattle.std.proofs.Common.{◌≡◌, ℕ, zero, suc, ◌+◌, ◌-◌, true, false, List, [], ◌∷◌, drop, length, Option, Some, None, refl}
 use Rattle.std.specs.Prelude.{codes}
-use Rattle.tb_token.specs.grammar.Grammar.{Tok, Part}
+use Rattle.tb_token.specs.grammar.Grammar.{Tok, Expression}
 use Rattle.tb_token.specs.grammar.Reading.{read}
 use Rattle.tb_token.specs.grammar.LL1.{is_ll1}
 use Rattle.tb_token.specs.tokens.Bytes.{is_blank}
@@ -29,7 +29,7 @@ scan (suc n) at (b ∷ bs) = elim (is_blank b) [
 abbrev pub toks : List ℕ → List Tok
 toks text = toks_of text (scan (length text) 0 text)
 
-abbrev left_of : Part → List ℕ → Option ℕ
+abbrev left_of : Expression → List ℕ → Option ℕ
 left_of part text = read rules (toks text) (Some (part ∷ []))
 
 -- the number of the token where a text is wrong; none where it is a query

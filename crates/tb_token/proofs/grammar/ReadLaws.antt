@@ -1,7 +1,7 @@
 -- A reading with one token of look-ahead goes on exactly as far as a sentence can.
 use Rattle.std.proofs.Common.{◌≡◌, ◌⊎◌, inl, inr, ⊎_elim, ℕ, zero, suc, ◌+◌, ◌-◌, ◌<◌, ◌≤◌, Bool, true, false, cond, List, [], ◌∷◌, ◌++◌, length, take, Option, Some, None, refl, sym, ap, ◌∙◌, arith, append-nil}
 use Rattle.std.proofs.lemmas.Bool.{and_parts, or_cases}
-use Rattle.tb_token.specs.grammar.Grammar.{Tok, Part, one, both, either, maybe, many, opened, Rules, has}
+use Rattle.tb_token.specs.grammar.Grammar.{Tok, Expression, one, both, either, maybe, many, opened, Rules, has}
 use Rattle.tb_token.specs.grammar.Sentences.{Tree, Derives, by_one, by_both, by_first, by_second, left_out, put_in, no_more, one_more, by_rule, AreSentence, Begin, IsWrongAt}
 use Rattle.tb_token.specs.grammar.Reading.{is_never_empty, may_end, first_set, takes, after, read}
 use Rattle.tb_token.specs.grammar.LL1.{are_apart, first_set_of_all, AreLL1, AreGood}
@@ -27,13 +27,13 @@ if-cases false o u y e = inr (refl, e)
 
 module _ (rules : Rules) (t : Tok) (s : List Tok) where
   -- from what is still to come once the parts have taken the token, the rest is a sentence
-  abbrev Leads : Option (List Part) → List Part → Type 0
-  Leads o ps = (hs : List Part) → o ≡ Some hs → AreSentence rules hs s → AreSentence rules ps (t ∷ s)
+  abbrev Leads : Option (List Expression) → List Expression → Type 0
+  Leads o ps = (hs : List Expression) → o ≡ Some hs → AreSentence rules hs s → AreSentence rules ps (t ∷ s)
 
-  none-leads : (ps : List Part) → Leads None ps
+  none-leads : (ps : List Expression) → Leads None ps
   none-leads ps = λ hs e sentence. none-some hs e
 
-  takes-leads : (p : Part) (ps : List Part) (o : Option (List Part)) → Leads o ps → Leads (takes rules p t.terminal ps o) (p ∷ ps)
+  takes-leads : (p : Expression) (ps : List Expression) (o : Option (List Expression)) → Leads o ps → Leads (takes rules p t.terminal ps o) (p ∷ ps)
   takes-leads (one c) ps o leads = λ hs e sentence.
       let is = if-some (has c t.terminal) ps hs e in
       sentence-one rules c t ps s is.0 (rw is.1 sentence)
@@ -58,12 +58,12 @@ module _ (rules : Rules) (t : Tok) (s : List Tok) where
       let is = if-some (has c t.terminal) (rules n ∷ ps) hs e in
       sentence-rule rules c n t ps s is.0 (rw is.1 sentence)
 
-  pub after-leads : (ps : List Part) → Leads (after rules ps t.terminal) ps
+  pub after-leads : (ps : List Expression) → Leads (after rules ps t.terminal) ps
   after-leads [] = none-leads []
   after-leads (p ∷ ps) = takes-leads p ps (after rules ps t.terminal) (after-leads ps)
 
 -- what a part that is not nullable takes does not depend on what is behind it
-pub takes-never_empty : (rules : Rules) (p : Part) (x : ℕ) (ps : List Part) (o u : Option (List Part)) → is_never_empty p ≡ true → takes rules p x ps o ≡ takes rules p x ps u
+pub takes-never_empty : (rules : Rules) (p : Expression) (x : ℕ) (ps : List Expression) (o u : Option (List Expression)) → is_never_empty p ≡ true → takes rules p x ps o ≡ takes rules p x ps u
 takes-never_empty rules (one c) x ps o u never_empty = refl
 takes-never_empty rules (both p q) x ps o u never_empty =
     ⊎_elim
@@ -91,12 +91,12 @@ module _ (rules : Rules) (follow : ℕ → List ℕ) (good : AreGood rules follo
   -- What sentences take, the reading takes.
 
   -- the reading takes the token, and the rest is a sentence of what is still to come
-  pub record GoesOn (ps : List Part) (t : Tok) (s : List Tok) : Type 0 where
-    pub to_come : List Part
+  pub record GoesOn (ps : List Expression) (t : Tok) (s : List Tok) : Type 0 where
+    pub to_come : List Expression
     pub goes : after rules ps t.terminal ≡ Some to_come
     pub sentence : AreSentence rules to_come s
 
-  pub sentence-goes : {ps : List Part} {vs : List Tree} {t : Tok} {s : List Tok} → AreLL1 follow ps → Derives rules ps vs (t ∷ s) → GoesOn ps t s
+  pub sentence-goes : {ps : List Expression} {vs : List Tree} {t : Tok} {s : List Tok} → AreLL1 follow ps → Derives rules ps vs (t ∷ s) → GoesOn ps t s
   sentence-goes {s = s} d (by_one {ps = ps} {vs = vs} h w) = record { to_come = ps; goes = rw h refl; sentence = (vs, w) }
   sentence-goes d (by_both {p = p} {q = q} {ps = ps} w) =
       let on = sentence-goes (both-ll1 rules follow good p q ps d) w in
@@ -137,13 +137,13 @@ module _ (rules : Rules) (follow : ℕ → List ℕ) (good : AreGood rules follo
 
   -- What is still to come is LL(1).
 
-  abbrev Stays : Option (List Part) → Type 0
-  Stays o = (hs : List Part) → o ≡ Some hs → AreLL1 follow hs
+  abbrev Stays : Option (List Expression) → Type 0
+  Stays o = (hs : List Expression) → o ≡ Some hs → AreLL1 follow hs
 
   none-stays : Stays None
   none-stays = λ hs e. none-some hs e
 
-  takes-ll1 : (p : Part) (x : ℕ) (ps : List Part) (o : Option (List Part)) → AreLL1 follow (p ∷ ps) → Stays o → Stays (takes rules p x ps o)
+  takes-ll1 : (p : Expression) (x : ℕ) (ps : List Expression) (o : Option (List Expression)) → AreLL1 follow (p ∷ ps) → Stays o → Stays (takes rules p x ps o)
   takes-ll1 (one c) x ps o d stays = λ hs e. let is = if-some (has c x) ps hs e in rw (← is.1) d.1
   takes-ll1 (both p q) x ps o d stays =
       let two = both-ll1 rules follow good p q ps d in
@@ -167,33 +167,33 @@ module _ (rules : Rules) (follow : ℕ → List ℕ) (good : AreGood rules follo
       let is = if-some (has c x) (rules n ∷ ps) hs e in
       rw (← is.1) (rule-ll1 rules follow good c n ps d)
 
-  after-ll1 : (ps : List Part) (x : ℕ) → AreLL1 follow ps → Stays (after rules ps x)
+  after-ll1 : (ps : List Expression) (x : ℕ) → AreLL1 follow ps → Stays (after rules ps x)
   after-ll1 [] x d = none-stays
   after-ll1 (p ∷ ps) x d = takes-ll1 p x ps (after rules ps x) d (after-ll1 ps x d.1)
 
   -- A sentence's tokens and more begin as their first token does.
-  begin-goes : (ps : List Part) (t : Tok) (s : List Tok) (hs : List Part) → AreLL1 follow ps → after rules ps t.terminal ≡ Some hs → Begin rules ps (t ∷ s) → Begin rules hs s
+  begin-goes : (ps : List Expression) (t : Tok) (s : List Tok) (hs : List Expression) → AreLL1 follow ps → after rules ps t.terminal ≡ Some hs → Begin rules ps (t ∷ s) → Begin rules hs s
   begin-goes ps t s hs d e begin =
       let on = sentence-goes d begin.1.1 in
       let same = some-is hs on.to_come (sym e ∙ on.goes) in
       (begin.0, rw same on.sentence)
 
-  begin-stops : {P : Type 0} (ps : List Part) (t : Tok) (s : List Tok) → AreLL1 follow ps → after rules ps t.terminal ≡ None → Begin rules ps (t ∷ s) → P
+  begin-stops : {P : Type 0} (ps : List Expression) (t : Tok) (s : List Tok) → AreLL1 follow ps → after rules ps t.terminal ≡ None → Begin rules ps (t ∷ s) → P
   begin-stops ps t s d e begin =
       let on = sentence-goes d begin.1.1 in
       none-some on.to_come (sym e ∙ on.goes)
 
-  begin-none : (ps : List Part) → AreLL1 follow ps → Begin rules ps []
+  begin-none : (ps : List Expression) → AreLL1 follow ps → Begin rules ps []
   begin-none ps d = have-sentence rules follow good ps d
 
-  begin-more : (ps : List Part) (t : Tok) (s : List Tok) (hs : List Part) → after rules ps t.terminal ≡ Some hs → Begin rules hs s → Begin rules ps (t ∷ s)
+  begin-more : (ps : List Expression) (t : Tok) (s : List Tok) (hs : List Expression) → after rules ps t.terminal ≡ Some hs → Begin rules hs s → Begin rules ps (t ∷ s)
   begin-more ps t s hs e begin = (begin.0, after-leads rules t (s ++ begin.0) ps hs e begin.1)
 
-  begin-sentence : (ps : List Part) (s : List Tok) → AreSentence rules ps s → Begin rules ps s
+  begin-sentence : (ps : List Expression) (s : List Tok) → AreSentence rules ps s → Begin rules ps s
   begin-sentence ps s sentence = ([], rw append-nil sentence)
 
   -- the list is wrong at its first token
-  wrong-first : (ps : List Part) (t : Tok) (s : List Tok) → AreLL1 follow ps → after rules ps t.terminal ≡ None → IsWrongAt rules ps (t ∷ s) 1
+  wrong-first : (ps : List Expression) (t : Tok) (s : List Tok) → AreLL1 follow ps → after rules ps t.terminal ≡ None → IsWrongAt rules ps (t ∷ s) 1
   wrong-first ps t s d e = record {
     some = omega arith;
     within = omega arith;
@@ -203,7 +203,7 @@ module _ (rules : Rules) (follow : ℕ → List ℕ) (good : AreGood rules follo
   }
 
   -- the list ends too early
-  wrong-end : (ps : List Part) → AreLL1 follow ps → may_end ps ≡ false → IsWrongAt rules ps [] 1
+  wrong-end : (ps : List Expression) → AreLL1 follow ps → may_end ps ≡ false → IsWrongAt rules ps [] 1
   wrong-end ps d e = record {
     some = omega arith;
     within = omega arith;
@@ -212,13 +212,13 @@ module _ (rules : Rules) (follow : ℕ → List ℕ) (good : AreGood rules follo
     none = λ sentence. none-true (may_end ps) e (none-ends sentence.1);
   }
 
-  before-more : (ps : List Part) (t : Tok) (s : List Tok) (hs : List Part) → AreLL1 follow ps → after rules ps t.terminal ≡ Some hs → (k : ℕ) → ((j : ℕ) → j < k → Begin rules hs (take j s))
+  before-more : (ps : List Expression) (t : Tok) (s : List Tok) (hs : List Expression) → AreLL1 follow ps → after rules ps t.terminal ≡ Some hs → (k : ℕ) → ((j : ℕ) → j < k → Begin rules hs (take j s))
       → (j : ℕ) → j < suc k → Begin rules ps (take j (t ∷ s))
   before-more ps t s hs d e k before zero below = begin-none ps d
   before-more ps t s hs d e k before (suc j) below = begin-more ps t (take j s) hs e (before j (omega arith))
 
   -- the list is wrong behind its first token
-  wrong-more : (ps : List Part) (t : Tok) (s : List Tok) (hs : List Part) (k : ℕ) → AreLL1 follow ps → after rules ps t.terminal ≡ Some hs → IsWrongAt rules hs s k → IsWrongAt rules ps (t ∷ s) (suc k)
+  wrong-more : (ps : List Expression) (t : Tok) (s : List Tok) (hs : List Expression) (k : ℕ) → AreLL1 follow ps → after rules ps t.terminal ≡ Some hs → IsWrongAt rules hs s k → IsWrongAt rules ps (t ∷ s) (suc k)
   wrong-more ps t s hs k d e wrong = record {
     some = omega arith;
     within = let le = wrong.within in omega arith;
@@ -231,7 +231,7 @@ module _ (rules : Rules) (follow : ℕ → List ℕ) (good : AreGood rules follo
   }
 
   -- no more tokens are left than there are
-  read-le : (s : List Tok) (ps : List Part) (left : ℕ) → read rules s (Some ps) ≡ Some left → left ≤ length s
+  read-le : (s : List Tok) (ps : List Expression) (left : ℕ) → read rules s (Some ps) ≡ Some left → left ≤ length s
   read-le [] ps left e = by (may_end ps) e
     where
       by : (ends : Bool) → ◌≡◌ {A = Option ℕ} (cond ends None (Some 0)) (Some left) → left ≤ 0
@@ -239,12 +239,12 @@ module _ (rules : Rules) (follow : ℕ → List ℕ) (good : AreGood rules follo
       by false e = let same = some-is 0 left e in omega arith
   read-le (t ∷ s) ps left e = by (after rules ps t.terminal) e (λ hs f. read-le s hs left f)
     where
-      by : (o : Option (List Part)) → read rules s o ≡ Some left → ((hs : List Part) → read rules s (Some hs) ≡ Some left → left ≤ length s) → left ≤ suc (length s)
+      by : (o : Option (List Expression)) → read rules s o ≡ Some left → ((hs : List Expression) → read rules s (Some hs) ≡ Some left → left ≤ length s) → left ≤ suc (length s)
       by None e rest = let same = some-is (1 + length s) left e in omega arith
       by (Some hs) e rest = let le = rest hs e in omega arith
 
   -- Where the reading stops, the list is wrong.
-  pub read-wrong : (s : List Tok) (ps : List Part) (left : ℕ) → AreLL1 follow ps → read rules s (Some ps) ≡ Some left → IsWrongAt rules ps s (length s - left + 1)
+  pub read-wrong : (s : List Tok) (ps : List Expression) (left : ℕ) → AreLL1 follow ps → read rules s (Some ps) ≡ Some left → IsWrongAt rules ps s (length s - left + 1)
   read-wrong [] ps left d e = by (may_end ps) refl e
     where
       by : (ends : Bool) → may_end ps ≡ ends → ◌≡◌ {A = Option ℕ} (cond ends None (Some 0)) (Some left) → IsWrongAt rules ps [] (0 - left + 1)
@@ -255,8 +255,8 @@ module _ (rules : Rules) (follow : ℕ → List ℕ) (good : AreGood rules follo
           rw size (wrong-end ps d f)
   read-wrong (t ∷ s) ps left d e = by (after rules ps t.terminal) refl e (λ hs stays f. read-wrong s hs left stays f)
     where
-      by : (o : Option (List Part)) → after rules ps t.terminal ≡ o → read rules s o ≡ Some left
-          → ((hs : List Part) → AreLL1 follow hs → read rules s (Some hs) ≡ Some left → IsWrongAt rules hs s (length s - left + 1))
+      by : (o : Option (List Expression)) → after rules ps t.terminal ≡ o → read rules s o ≡ Some left
+          → ((hs : List Expression) → AreLL1 follow hs → read rules s (Some hs) ≡ Some left → IsWrongAt rules hs s (length s - left + 1))
           → IsWrongAt rules ps (t ∷ s) (suc (length s) - left + 1)
       by None f e rest =
           let same = some-is (1 + length s) left e in
@@ -269,7 +269,7 @@ module _ (rules : Rules) (follow : ℕ → List ℕ) (good : AreGood rules follo
           rw size (wrong-more ps t s hs (length s - left + 1) d f wrong)
 
   -- Where the reading comes to the end, the list is a sentence.
-  pub read-sentence : (s : List Tok) (ps : List Part) → read rules s (Some ps) ≡ None → AreSentence rules ps s
+  pub read-sentence : (s : List Tok) (ps : List Expression) → read rules s (Some ps) ≡ None → AreSentence rules ps s
   read-sentence [] ps e = by (may_end ps) refl e
     where
       by : (ends : Bool) → may_end ps ≡ ends → ◌≡◌ {A = Option ℕ} (cond ends None (Some 0)) None → AreSentence rules ps []
@@ -277,6 +277,6 @@ module _ (rules : Rules) (follow : ℕ → List ℕ) (good : AreGood rules follo
       by false f e = none-some 0 (sym e)
   read-sentence (t ∷ s) ps e = by (after rules ps t.terminal) refl e (λ hs f. read-sentence s hs f)
     where
-      by : (o : Option (List Part)) → after rules ps t.terminal ≡ o → read rules s o ≡ None → ((hs : List Part) → read rules s (Some hs) ≡ None → AreSentence rules hs s) → AreSentence rules ps (t ∷ s)
+      by : (o : Option (List Expression)) → after rules ps t.terminal ≡ o → read rules s o ≡ None → ((hs : List Expression) → read rules s (Some hs) ≡ None → AreSentence rules hs s) → AreSentence rules ps (t ∷ s)
       by None f e rest = none-some (1 + length s) (sym e)
       by (Some hs) f e rest = after-leads rules t s ps hs f (rest hs e)

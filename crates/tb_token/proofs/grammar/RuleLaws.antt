@@ -2,11 +2,11 @@
 use Rattle.std.proofs.Common.{◌≡◌, ℕ, Bool, true, ◌&&◌, List, [], ◌∷◌, ◌++◌, take, sym}
 use Rattle.std.specs.Prelude.{IsTrue, ⊤}
 use Rattle.std.proofs.lemmas.Bool.{and_parts}
-use Rattle.tb_token.specs.grammar.Grammar.{Tok, Part, one, both, either, maybe, many, opened, Rules}
+use Rattle.tb_token.specs.grammar.Grammar.{Tok, Expression, one, both, either, maybe, many, opened, Rules}
 use Rattle.tb_token.specs.grammar.Sentences.{Tree, Derives, at_end, by_one, by_both, by_first, by_second, left_out, put_in, no_more, one_more, by_rule, AreSentence, IsWrongAt}
 
 -- the part calls such rules alone
-abbrev pub calls : (ℕ → Bool) → Part → Bool
+abbrev pub calls : (ℕ → Bool) → Expression → Bool
 calls may (one c) = true
 calls may (both p q) = calls may p && calls may q
 calls may (either p q) = calls may p && calls may q
@@ -15,7 +15,7 @@ calls may (many p) = calls may p
 calls may (opened c n) = may n
 
 -- each of the parts does
-abbrev pub Call : (ℕ → Bool) → List Part → Type 0
+abbrev pub Call : (ℕ → Bool) → List Expression → Type 0
 Call may [] = ⊤
 Call may (p ∷ ps) = IsTrue (calls may p) × Call may ps
 
@@ -31,7 +31,7 @@ module _ (may : ℕ → Bool) where
     within = λ n is. let same = agree.same n is in rw (sym same) (agree.within n is);
   }
 
-  derives-by : (here there : Rules) → Agree may here there → {ps : List Part} {vs : List Tree} {s : List Tok} → Call may ps → Derives here ps vs s → Derives there ps vs s
+  derives-by : (here there : Rules) → Agree may here there → {ps : List Expression} {vs : List Tree} {s : List Tok} → Call may ps → Derives here ps vs s → Derives there ps vs s
   derives-by here there agree call at_end = at_end
   derives-by here there agree call (by_one h w) = by_one h (derives-by here there agree call.1 w)
   derives-by here there agree call (by_both {p = p} {q = q} w) =
@@ -51,7 +51,7 @@ module _ (may : ℕ → Bool) where
       let same = agree.same n call.0 in
       by_rule h (rw same at (derives-by here there agree (agree.within n call.0, call.1) w))
 
-  module _ (here there : Rules) (agree : Agree may here there) (ps : List Part) (call : Call may ps) where
+  module _ (here there : Rules) (agree : Agree may here there) (ps : List Expression) (call : Call may ps) where
     pub sentence-by : (s : List Tok) → AreSentence here ps s → AreSentence there ps s
     sentence-by s sentence = (sentence.0, derives-by here there agree call sentence.1)
 

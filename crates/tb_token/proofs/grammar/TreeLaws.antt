@@ -1,7 +1,7 @@
 -- A list of tokens has one tree where one token of look-ahead decides, and is wrong at one place.
 use Rattle.std.proofs.Common.{◌≡◌, ◌⊎◌, inl, inr, ℕ, ◌<◌, true, List, [], ◌∷◌, refl, ap, arith}
 use Rattle.std.proofs.lemmas.Bool.{cases_order}
-use Rattle.tb_token.specs.grammar.Grammar.{Tok, Part, either, maybe, many, Rules, has}
+use Rattle.tb_token.specs.grammar.Grammar.{Tok, Expression, either, maybe, many, Rules, has}
 use Rattle.tb_token.specs.grammar.Sentences.{Tree, leaf, nothing, pair, first, second, Derives, at_end, by_one, by_both, by_first, by_second, left_out, put_in, no_more, one_more, by_rule, IsWrongAt}
 use Rattle.tb_token.specs.grammar.Reading.{is_never_empty, first_set}
 use Rattle.tb_token.specs.grammar.LL1.{are_apart, first_set_of_all, AreLL1, AreGood}
@@ -22,7 +22,7 @@ rule-same t v w vs ws e = cc
 
 module _ (rules : Rules) (follow : ℕ → List ℕ) (good : AreGood rules follow) where
   -- two choices do not begin with one token
-  either-apart : {p q : Part} {ps : List Part} {vs ws : List Tree} (s : List Tok) → AreLL1 follow (either p q ∷ ps) → Derives rules (p ∷ ps) vs s → Derives rules (q ∷ ps) ws s → ⊥
+  either-apart : {p q : Expression} {ps : List Expression} {vs ws : List Tree} (s : List Tok) → AreLL1 follow (either p q ∷ ps) → Derives rules (p ∷ ps) vs s → Derives rules (q ∷ ps) ws s → ⊥
   either-apart {p = p} {q = q} {ps = ps} [] d one_is two_is = never_empty-takes (either-never_empty rules follow good p q ps d).0 one_is
   either-apart {p = p} {q = q} {ps = ps} (t ∷ s) d one_is two_is =
       let never_empty = either-never_empty rules follow good p q ps d in
@@ -31,7 +31,7 @@ module _ (rules : Rules) (follow : ℕ → List ℕ) (good : AreGood rules follo
       none-true (has (first_set q) t.terminal) (apart-none (first_set p) (first_set q) t.terminal never_empty.2 here) there
 
   -- nor do a part and what is behind it
-  apart-by : {p : Part} {ps qs : List Part} {vs ws : List Tree} (s : List Tok) → AreLL1 follow (p ∷ qs) → AreLL1 follow ps → is_never_empty p ≡ true → are_apart (first_set p) (first_set_of_all ps) ≡ true
+  apart-by : {p : Expression} {ps qs : List Expression} {vs ws : List Tree} (s : List Tok) → AreLL1 follow (p ∷ qs) → AreLL1 follow ps → is_never_empty p ≡ true → are_apart (first_set p) (first_set_of_all ps) ≡ true
       → Derives rules (p ∷ qs) vs s → Derives rules ps ws s → ⊥
   apart-by [] d e never_empty apart one_is two_is = never_empty-takes never_empty one_is
   apart-by {p = p} {ps = ps} (t ∷ s) d e never_empty apart one_is two_is =
@@ -39,18 +39,18 @@ module _ (rules : Rules) (follow : ℕ → List ℕ) (good : AreGood rules follo
       let there = sentence-first_set_before rules follow good e two_is in
       none-true (has (first_set_of_all ps) t.terminal) (apart-none (first_set p) (first_set_of_all ps) t.terminal apart here) there
 
-  maybe-apart : {p : Part} {ps : List Part} {vs ws : List Tree} (s : List Tok) → AreLL1 follow (maybe p ∷ ps) → Derives rules (p ∷ ps) vs s → Derives rules ps ws s → ⊥
+  maybe-apart : {p : Expression} {ps : List Expression} {vs ws : List Tree} (s : List Tok) → AreLL1 follow (maybe p ∷ ps) → Derives rules (p ∷ ps) vs s → Derives rules ps ws s → ⊥
   maybe-apart {p = p} {ps = ps} s d one_is two_is =
       let never_empty = maybe-never_empty rules follow good p ps d in
       apart-by s (maybe-ll1 rules follow good p ps d) d.1 never_empty.0 never_empty.1 one_is two_is
 
-  many-apart : {p : Part} {ps : List Part} {vs ws : List Tree} (s : List Tok) → AreLL1 follow (many p ∷ ps) → Derives rules (p ∷ many p ∷ ps) vs s → Derives rules ps ws s → ⊥
+  many-apart : {p : Expression} {ps : List Expression} {vs ws : List Tree} (s : List Tok) → AreLL1 follow (many p ∷ ps) → Derives rules (p ∷ many p ∷ ps) vs s → Derives rules ps ws s → ⊥
   many-apart {p = p} {ps = ps} s d one_is two_is =
       let never_empty = many-never_empty rules follow good p ps d in
       apart-by s (many-ll1 rules follow good p ps d) d.1 never_empty.0 never_empty.1 one_is two_is
 
   -- The trees of one derivation are those of the other.
-  pub one-tree : {ps : List Part} {s : List Tok} {vs ws : List Tree} → AreLL1 follow ps → Derives rules ps vs s → Derives rules ps ws s → vs ≡ ws
+  pub one-tree : {ps : List Expression} {s : List Tok} {vs ws : List Tree} → AreLL1 follow ps → Derives rules ps vs s → Derives rules ps ws s → vs ≡ ws
   one-tree d at_end at_end = refl
   one-tree d (by_one {t = t} h w) (by_one k u) = ap (λ vs. leaf t ∷ vs) (one-tree d.1 w u)
   one-tree d (by_both {p = p} {q = q} {ps = ps} w) (by_both u) = pair-same _ _ _ _ _ _ (one-tree (both-ll1 rules follow good p q ps d) w u)
@@ -68,12 +68,12 @@ module _ (rules : Rules) (follow : ℕ → List ℕ) (good : AreGood rules follo
   one-tree d (one_more {p = p} {ps = ps} w) (one_more u) = pair-same _ _ _ _ _ _ (one-tree (many-ll1 rules follow good p ps d) w u)
   one-tree d (by_rule {c = c} {n = n} {t = t} {ps = ps} h w) (by_rule k u) = rule-same t _ _ _ _ (one-tree (rule-ll1 rules follow good c n ps d) w u)
 
-not-before : (rules : Rules) (ps : List Part) (s : List Tok) (k j : ℕ) → IsWrongAt rules ps s k → IsWrongAt rules ps s j → k < j → ⊥
+not-before : (rules : Rules) (ps : List Expression) (s : List Tok) (k j : ℕ) → IsWrongAt rules ps s k → IsWrongAt rules ps s j → k < j → ⊥
 not-before rules ps s k j one_is two_is less =
     let within = two_is.within in
     one_is.here (omega arith) (two_is.before k less)
 
-pub wrong-once : (rules : Rules) (ps : List Part) (s : List Tok) (k j : ℕ) → IsWrongAt rules ps s k → IsWrongAt rules ps s j → k ≡ j
+pub wrong-once : (rules : Rules) (ps : List Expression) (s : List Tok) (k j : ℕ) → IsWrongAt rules ps s k → IsWrongAt rules ps s j → k ≡ j
 wrong-once rules ps s k j one_is two_is = by (cases_order k j)
   where
     by : (k ≡ j) ⊎ ((k < j) ⊎ (j < k)) → k ≡ j

@@ -1,14 +1,14 @@
 -- Rows worked out by hand: a list of terminals in parentheses, `( a , a )`, in which such lists may stand.
 use Rattle.std.proofs.Common.{◌≡◌, ℕ, false, List, [], ◌∷◌, map, Some, None, refl}
-use Rattle.tb_token.specs.grammar.Grammar.{Tok, Part, one, both, either, many, opened, Rules, row}
+use Rattle.tb_token.specs.grammar.Grammar.{Tok, Expression, one, both, either, many, opened, Rules, row}
 use Rattle.tb_token.specs.grammar.Reading.{read}
 use Rattle.tb_token.specs.grammar.LL1.{is_ll1, AreLL1, AreGood}
 
 -- the terminals 1 `(`, 2 `)`, 3 `,`, 4 `a`
-abbrev nested : Part
+abbrev nested : Expression
 nested = opened (1 ∷ []) 0
 
-abbrev item : Part
+abbrev item : Expression
 item = either (one (4 ∷ [])) nested
 
 abbrev rules : Rules

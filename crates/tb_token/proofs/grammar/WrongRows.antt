@@ -2,7 +2,7 @@
 use Rattle.std.proofs.Common.{◌≡◌, ℕ, ◌+◌, Bool, ◌||◌, ◌&&◌, true, List, [], ◌∷◌, ◌++◌, length, Some, None, refl}
 use Rattle.std.specs.Prelude.{codes, nat_le, nat_lt}
 use Rattle.std.specs.List.{list_all}
-use Rattle.tb_token.specs.grammar.Grammar.{Part, one, both, either, maybe, many, opened}
+use Rattle.tb_token.specs.grammar.Grammar.{Expression, one, both, either, maybe, many, opened}
 use Rattle.tb_token.specs.grammar.Sentences.{IsWrongAt}
 use Rattle.tb_token.proofs.grammar.ReadLaws.{read-wrong}
 use Rattle.tb_token.specs.tokens.Kinds.{signs}
@@ -12,7 +12,7 @@ use Rattle.tb_token.proofs.grammar.QueryLaws.{readable}
 use Rattle.tb_token.proofs.grammar.QueryRows.{toks, wrong_at}
 
 -- the terminals that a part names
-abbrev terminals : Part → List ℕ
+abbrev terminals : Expression → List ℕ
 terminals (one c) = c
 terminals (both p q) = terminals p ++ terminals q
 terminals (either p q) = terminals p ++ terminals q

@@ -1,6 +1,6 @@
 -- What a part begins with, by whether it may be empty.
 use Rattle.std.proofs.Common.{◌≡◌, ℕ, Bool, true, false, not, ◌&&◌, ◌||◌, refl}
-use Rattle.tb_token.specs.grammar.Grammar.{Part, one, both, either, maybe, many, opened, has}
+use Rattle.tb_token.specs.grammar.Grammar.{Expression, one, both, either, maybe, many, opened, has}
 use Rattle.tb_token.specs.grammar.Reading.{is_never_empty}
 use Rattle.tb_token.specs.reading.Machine.{begins_by}
 
@@ -32,7 +32,7 @@ in_option false false true = refl
 in_option false false false = refl
 
 -- What stands behind a part matters where the part may be empty.
-pub begins-behind : (p : Part) (x : ℕ) (c : Bool) → begins_by p x c ≡ (begins_by p x false || (not (is_never_empty p) && c))
+pub begins-behind : (p : Expression) (x : ℕ) (c : Bool) → begins_by p x c ≡ (begins_by p x false || (not (is_never_empty p) && c))
 begins-behind (one l) x c = or-none (has l x)
 begins-behind (both p q) x c =
     let alone = begins-behind p x (begins_by q x false) in
@@ -51,7 +51,7 @@ begins-behind (many p) x c =
     rw one_is (in_option (begins_by p x false) (is_never_empty p) c)
 begins-behind (opened l n) x c = or-none (has l x)
 
-module _ (p q : Part) (x : ℕ) (c : Bool) where
+module _ (p q : Expression) (x : ℕ) (c : Bool) where
   pub begins-first : begins_by p x false ≡ true → begins_by (both p q) x c ≡ true
   begins-first e = rw (begins-behind p x (begins_by q x c), e) refl
 

@@ -4,15 +4,15 @@ use Rattle.std.specs.Borrow.{Bor}
 use Rattle.tb_token.specs.grammar.Grammar as grammar
 use Rattle.tb_token.specs.grammar.Grammar.{one, both, either, maybe, many, opened, has, Rules}
 use Rattle.tb_token.specs.grammar.Reading.{first_set_before, first_set, takes}
-use Rattle.tb_token.specs.reading.View.{part_of}
+use Rattle.tb_token.specs.reading.View.{expression_of}
 use Rattle.tb_token.specs.reading.Machine.{begins_by, Step, taken, passed, stuck, or_else, step}
-use Rattle.tb_token.specs.reading.Stack.{parts_in}
-use Rattle.tb_token.specs.declared.reader.part.Part.{Part}
+use Rattle.tb_token.specs.reading.Stack.{expressions_in}
+use Rattle.tb_token.specs.declared.reader.expression.Expression.{Expression}
 
 -- the top of a stack comes first
-pub parts_in-push : (stack : List (Bor Part)) (p : Bor Part) → parts_in (stack ++ p ∷ []) ≡ part_of p.now ∷ parts_in stack
-parts_in-push [] p = refl
-parts_in-push (q ∷ above) p = ap (λ ps. ps ++ part_of q.now ∷ []) (parts_in-push above p)
+pub expressions_in-push : (stack : List (Bor Expression)) (p : Bor Expression) → expressions_in (stack ++ p ∷ []) ≡ expression_of p.now ∷ expressions_in stack
+expressions_in-push [] p = refl
+expressions_in-push (q ∷ above) p = ap (λ ps. ps ++ expression_of q.now ∷ []) (expressions_in-push above p)
 
 has-append : (xs ys : List ℕ) (x : ℕ) → has (xs ++ ys) x ≡ (has xs x || has ys x)
 has-append [] ys x = refl
@@ -23,7 +23,7 @@ has-append (y ∷ xs) ys x = ap (λ b. y == x || b) (has-append xs ys x) ∙ by 
     by false b c = refl
 
 -- a part begins with the terminal where it is in its FIRST
-pub begins-first_set_before : (p : grammar.Part) (xs : List ℕ) (x : ℕ) → begins_by p x (has xs x) ≡ has (first_set_before p xs) x
+pub begins-first_set_before : (p : grammar.Expression) (xs : List ℕ) (x : ℕ) → begins_by p x (has xs x) ≡ has (first_set_before p xs) x
 begins-first_set_before (one c) xs x = refl
 begins-first_set_before (both p q) xs x = ap (λ b. begins_by p x b) (begins-first_set_before q xs x) ∙ begins-first_set_before p (first_set_before q xs) x
 begins-first_set_before (either p q) xs x =
@@ -34,29 +34,29 @@ begins-first_set_before (maybe p) xs x = rw (begins-first_set_before p xs x) (sy
 begins-first_set_before (many p) xs x = rw (begins-first_set_before p xs x) (sym (has-append (first_set_before p xs) xs x))
 begins-first_set_before (opened c n) xs x = refl
 
-begins-first_set : (p : grammar.Part) (x : ℕ) → begins_by p x false ≡ has (first_set p) x
+begins-first_set : (p : grammar.Expression) (x : ℕ) → begins_by p x false ≡ has (first_set p) x
 begins-first_set p x = begins-first_set_before p [] x
 
 -- what is still to come behind a step
-abbrev pub behind : Step → List grammar.Part → Option (List grammar.Part) → Option (List grammar.Part)
+abbrev pub behind : Step → List grammar.Expression → Option (List grammar.Expression) → Option (List grammar.Expression)
 behind (taken rs) ps other = Some (rs ++ ps)
 behind passed ps other = other
 behind stuck ps other = None
 
-behind-or : (s t : Step) (q : grammar.Part) (ps : List grammar.Part) (other : Option (List grammar.Part))
+behind-or : (s t : Step) (q : grammar.Expression) (ps : List grammar.Expression) (other : Option (List grammar.Expression))
     → behind (or_else s q t) ps other ≡ behind s (q ∷ ps) (behind t ps other)
 behind-or (taken rs) t q ps other = ap (λ l. Some l) (append_assoc rs (q ∷ []) ps)
 behind-or passed t q ps other = refl
 behind-or stuck t q ps other = refl
 
-behind-cond : (b : Bool) (s t : Step) (ps : List grammar.Part) (other : Option (List grammar.Part))
+behind-cond : (b : Bool) (s t : Step) (ps : List grammar.Expression) (other : Option (List grammar.Expression))
     → behind (cond b s t) ps other ≡ cond b (behind s ps other) (behind t ps other)
 behind-cond true s t ps other = refl
 behind-cond false s t ps other = refl
 
 module _ (rules : Rules) (x : ℕ) where
   -- a step is what the part takes
-  pub step-takes : (p : grammar.Part) (ps : List grammar.Part) (other : Option (List grammar.Part)) → behind (step rules p x) ps other ≡ takes rules p x ps other
+  pub step-takes : (p : grammar.Expression) (ps : List grammar.Expression) (other : Option (List grammar.Expression)) → behind (step rules p x) ps other ≡ takes rules p x ps other
   step-takes (one c) ps other = behind-cond (has c x) (taken []) stuck ps other
   step-takes (both p q) ps other =
       behind-or (step rules p x) (step rules q x) q ps other ∙ ap (λ o. behind (step rules p x) (q ∷ ps) o) (step-takes q ps other)

@@ -5,48 +5,48 @@ use Rattle.std.specs.Borrow.{Bor}
 use Rattle.tb_token.specs.grammar.Grammar as grammar
 use Rattle.tb_token.specs.grammar.Grammar.{has, Rules}
 use Rattle.tb_token.proofs.grammar.TerminalLaws.{none-true}
-use Rattle.tb_token.specs.reading.View.{part_of}
+use Rattle.tb_token.specs.reading.View.{expression_of}
 use Rattle.tb_token.specs.reading.Machine.{begins_by, Step, taken, passed, stuck, or_else, step}
-use Rattle.tb_token.specs.reading.Stack.{parts_in, HasTaken, is_passed, of_more}
-use Rattle.tb_token.specs.declared.reader.part.Part.{Part}
-use Rattle.tb_token.specs.declared.reader.part.Part.TheVariants as part
+use Rattle.tb_token.specs.reading.Stack.{expressions_in, HasTaken, is_passed, of_more}
+use Rattle.tb_token.specs.declared.reader.expression.Expression.{Expression}
+use Rattle.tb_token.specs.declared.reader.expression.Expression.TheVariants as part
 use Rattle.tb_token.specs.declared.reader.take.Took.{Took}
 use Rattle.tb_token.specs.declared.reader.take.Took.TheVariants as took
-use Rattle.tb_token.proofs.reading.Views.{part_of-Both, part_of-Many, part_of-Opened}
-use Rattle.tb_token.proofs.reading.StepLaws.{parts_in-push}
+use Rattle.tb_token.proofs.reading.Views.{expression_of-Both, expression_of-Many, expression_of-Opened}
+use Rattle.tb_token.proofs.reading.StepLaws.{expressions_in-push}
 
-module _ (rules : Rules) (x : ℕ) (whole : Part) where
-  pub step-both : (p q : Bor Part) → whole ≡ part.Both p q
-      → step rules (part_of whole) x ≡ or_else (step rules (part_of p.now) x) (part_of q.now) (step rules (part_of q.now) x)
-  step-both p q e = ap (λ w. step rules (part_of w) x) e ∙ ap (λ w. step rules w x) (part_of-Both p q)
+module _ (rules : Rules) (x : ℕ) (whole : Expression) where
+  pub step-both : (p q : Bor Expression) → whole ≡ part.Both p q
+      → step rules (expression_of whole) x ≡ or_else (step rules (expression_of p.now) x) (expression_of q.now) (step rules (expression_of q.now) x)
+  step-both p q e = ap (λ w. step rules (expression_of w) x) e ∙ ap (λ w. step rules w x) (expression_of-Both p q)
 
-  pub step-many : (p : Bor Part) → whole ≡ part.Many p → begins_by (part_of p.now) x false ≡ true
-      → step rules (part_of whole) x ≡ or_else (step rules (part_of p.now) x) (part_of whole) stuck
+  pub step-many : (p : Bor Expression) → whole ≡ part.Many p → begins_by (expression_of p.now) x false ≡ true
+      → step rules (expression_of whole) x ≡ or_else (step rules (expression_of p.now) x) (expression_of whole) stuck
   step-many p e begun =
-      let same : part_of whole ≡ grammar.many (part_of p.now) = ap (λ w. part_of w) e ∙ part_of-Many p in
+      let same : expression_of whole ≡ grammar.many (expression_of p.now) = ap (λ w. expression_of w) e ∙ expression_of-Many p in
       rw (same, begun) refl
 
-  pub step-opened : (cs : Bor (List ℕ)) (n : ℕ) → whole ≡ part.Opened cs n → has cs.now x ≡ true → step rules (part_of whole) x ≡ taken (rules n ∷ [])
+  pub step-opened : (cs : Bor (List ℕ)) (n : ℕ) → whole ≡ part.Opened cs n → has cs.now x ≡ true → step rules (expression_of whole) x ≡ taken (rules n ∷ [])
   step-opened cs n e here =
-      let same : part_of whole ≡ grammar.opened cs.now n = ap (λ w. part_of w) e ∙ part_of-Opened cs n in
+      let same : expression_of whole ≡ grammar.opened cs.now n = ap (λ w. expression_of w) e ∙ expression_of-Opened cs n in
       rw (same, here) refl
 
-module _ (before pushed now : List (Bor Part)) (q : Bor Part) (push : pushed ≡ before ++ q ∷ []) where
-  over : (ps : List grammar.Part) → parts_in now ≡ ps ++ parts_in pushed → parts_in now ≡ (ps ++ part_of q.now ∷ []) ++ parts_in before
-  over ps e = e ∙ ap (λ l. ps ++ l) (ap parts_in push ∙ parts_in-push before q) ∙ sym (append_assoc ps (part_of q.now ∷ []) (parts_in before))
+module _ (before pushed now : List (Bor Expression)) (q : Bor Expression) (push : pushed ≡ before ++ q ∷ []) where
+  over : (ps : List grammar.Expression) → expressions_in now ≡ ps ++ expressions_in pushed → expressions_in now ≡ (ps ++ expression_of q.now ∷ []) ++ expressions_in before
+  over ps e = e ∙ ap (λ l. ps ++ l) (ap expressions_in push ∙ expressions_in-push before q) ∙ sym (append_assoc ps (expression_of q.now ∷ []) (expressions_in before))
 
   -- what was pushed stays below what the part leaves
-  pub taken-first : (s t : Step) (k : Took) → HasTaken s pushed now k → is_passed k ≡ false → HasTaken (or_else s (part_of q.now) t) before now k
-  taken-first s t took.Taken (ps, is, left) e = (ps ++ part_of q.now ∷ [], ap (λ w. or_else w (part_of q.now) t) is, over ps left)
+  pub taken-first : (s t : Step) (k : Took) → HasTaken s pushed now k → is_passed k ≡ false → HasTaken (or_else s (expression_of q.now) t) before now k
+  taken-first s t took.Taken (ps, is, left) e = (ps ++ expression_of q.now ∷ [], ap (λ w. or_else w (expression_of q.now) t) is, over ps left)
   taken-first s t took.Passed is e = none-true true e refl
-  taken-first s t took.Stuck is e = ap (λ w. or_else w (part_of q.now) t) is
+  taken-first s t took.Stuck is e = ap (λ w. or_else w (expression_of q.now) t) is
 
-  pub taken-more : (s : Step) (k : Took) → HasTaken s pushed now k → HasTaken (or_else s (part_of q.now) stuck) before now (of_more k)
-  taken-more s took.Taken (ps, is, left) = (ps ++ part_of q.now ∷ [], ap (λ w. or_else w (part_of q.now) stuck) is, over ps left)
-  taken-more s took.Passed is = ap (λ w. or_else w (part_of q.now) stuck) is.0
-  taken-more s took.Stuck is = ap (λ w. or_else w (part_of q.now) stuck) is
+  pub taken-more : (s : Step) (k : Took) → HasTaken s pushed now k → HasTaken (or_else s (expression_of q.now) stuck) before now (of_more k)
+  taken-more s took.Taken (ps, is, left) = (ps ++ expression_of q.now ∷ [], ap (λ w. or_else w (expression_of q.now) stuck) is, over ps left)
+  taken-more s took.Passed is = ap (λ w. or_else w (expression_of q.now) stuck) is.0
+  taken-more s took.Stuck is = ap (λ w. or_else w (expression_of q.now) stuck) is
 
-pub taken-passed : (s : Step) (before now : List (Bor Part)) (k : Took) → HasTaken s before now k → is_passed k ≡ true → (s ≡ passed) × (now ≡ before)
+pub taken-passed : (s : Step) (before now : List (Bor Expression)) (k : Took) → HasTaken s before now k → is_passed k ≡ true → (s ≡ passed) × (now ≡ before)
 taken-passed s before now took.Taken is e = none-true false refl e
 taken-passed s before now took.Passed is e = is
 taken-passed s before now took.Stuck is e = none-true false refl e
@@ -68,13 +68,13 @@ append-last (w ∷ xs) (z ∷ ys) x y e =
     let rest = append-last xs ys x y (ap (λ l. drop 1 l) e) in
     rw (sym first) (ap (λ l. w ∷ l) rest)
 
-module _ (before : List (Bor Part)) (q : Bor Part) (old : List (Bor Part)) (is : old ≡ before ++ q ∷ []) where
+module _ (before : List (Bor Expression)) (q : Bor Expression) (old : List (Bor Expression)) (is : old ≡ before ++ q ∷ []) where
   pub some-pushed : (n : ℕ) → n ≡ length old → 0 < n
   some-pushed n e =
       let size = ap length is in
       let more = length-append before (q ∷ []) in
       omega arith
 
-  pub popped-back : (new : List (Bor Part)) (o : Option (Bor Part)) → old ≡ new ++ option_to_list o → IsSome o → new ≡ before
+  pub popped-back : (new : List (Bor Expression)) (o : Option (Bor Expression)) → old ≡ new ++ option_to_list o → IsSome o → new ≡ before
   popped-back new None e some = none-true false refl some
   popped-back new (Some r) e some = append-last before new q r (sym is ∙ e)

@@ -1,13 +1,13 @@
 -- Worked rows of the definitions, computed.
 use Rattle.std.proofs.Common.{◌≡◌, true, false, [], ◌∷◌, refl}
-use Rattle.tb_token.specs.grammar.Grammar.{Part, one, both, maybe, many, opened, Rules}
+use Rattle.tb_token.specs.grammar.Grammar.{Expression, one, both, maybe, many, opened, Rules}
 use Rattle.tb_token.specs.reading.Machine.{begins_by, taken, passed, stuck, step}
 
 -- the terminals 1 and 2; and rules that all say 2
-abbrev a : Part
+abbrev a : Expression
 a = one (1 ∷ [])
 
-abbrev b : Part
+abbrev b : Expression
 b = one (2 ∷ [])
 
 abbrev says_b : Rules

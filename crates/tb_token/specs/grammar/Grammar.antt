@@ -10,23 +10,23 @@ pub record Tok : Type 0 where
 
 -- What a rule is made of. A rule is called by its number behind a token that opens it, so each call
 -- takes a token; what is no such call is written out.
-pub data Part : Type 0 where
+pub data Expression : Type 0 where
   -- one token whose terminal is among these
-  one : List ℕ → Part
+  one : List ℕ → Expression
   -- the first, and behind it the second
-  both : Part → Part → Part
+  both : Expression → Expression → Expression
   -- the first or the second
-  either : Part → Part → Part
+  either : Expression → Expression → Expression
   -- the part, or nothing
-  maybe : Part → Part
+  maybe : Expression → Expression
   -- the part any number of times
-  many : Part → Part
+  many : Expression → Expression
   -- one token whose terminal is among these, and behind it what the rule of this number says
-  opened : List ℕ → ℕ → Part
+  opened : List ℕ → ℕ → Expression
 
 -- what each rule says
 abbrev pub Rules : Type 0
-Rules = ℕ → Part
+Rules = ℕ → Expression
 
 -- the terminal is among these
 abbrev pub has : List ℕ → ℕ → Bool
@@ -34,11 +34,11 @@ has [] x = false
 has (c ∷ cs) x = c == x || has cs x
 
 -- the parts one after the other
-abbrev pub row : Part → List Part → Part
+abbrev pub row : Expression → List Expression → Expression
 row p [] = p
 row p (q ∷ qs) = both p (row q qs)
 
 -- one of the parts
-abbrev pub one_of : Part → List Part → Part
+abbrev pub one_of : Expression → List Expression → Expression
 one_of p [] = p
 one_of p (q ∷ qs) = either p (one_of q qs)

@@ -1,24 +1,24 @@
 -- What a reader of one part promises, at a place of the list of tokens from 0. It speaks of any
 -- parts that may stand behind, so readers of parts are joined without a word on what follows them.
 use Rattle.std.specs.Prelude.{◌≡◌, ℕ, ◌+◌, ◌-◌, ◌≤◌, List, [], ◌∷◌, length, drop, Some}
-use Rattle.tb_token.specs.grammar.Grammar.{Tok, Part, many, Rules}
+use Rattle.tb_token.specs.grammar.Grammar.{Tok, Expression, many, Rules}
 use Rattle.tb_token.specs.grammar.Sentences.{Tree, pair, Derives}
 use Rattle.tb_token.specs.grammar.Reading.{read}
 
 -- the part stands from one place up to the next, and this is its tree
-pub record Stands (rules : Rules) (s : List Tok) (p : Part) (at next : ℕ) (v : Tree) : Type 0 where
+pub record Stands (rules : Rules) (s : List Tok) (p : Expression) (at next : ℕ) (v : Tree) : Type 0 where
   pub from : at ≤ next
   pub to : next ≤ length s
-  pub on : (ps : List Part)
+  pub on : (ps : List Expression)
       → read rules (drop at s) (Some (p ∷ ps)) ≡ read rules (drop next s) (Some ps)
-  pub made : (ps : List Part) (vs : List Tree) → Derives rules ps vs (drop next s)
+  pub made : (ps : List Expression) (vs : List Tree) → Derives rules ps vs (drop next s)
       → Derives rules (p ∷ ps) (v ∷ vs) (drop at s)
 
 -- the part does not stand at the place: the reading stops at the token of place `bad`, or the end
-pub record Stops (rules : Rules) (s : List Tok) (p : Part) (at bad : ℕ) : Type 0 where
+pub record Stops (rules : Rules) (s : List Tok) (p : Expression) (at bad : ℕ) : Type 0 where
   pub from : at ≤ bad
   pub to : bad ≤ length s
-  pub off : (ps : List Part) → read rules (drop at s) (Some (p ∷ ps)) ≡ Some (length s - bad)
+  pub off : (ps : List Expression) → read rules (drop at s) (Some (p ∷ ps)) ≡ Some (length s - bad)
 
 -- the token of the place
 abbrev pub IsAt : List Tok → ℕ → Tok → Type 0
@@ -30,12 +30,12 @@ chain [] w = w
 chain (v ∷ vs) w = pair v (chain vs w)
 
 -- the part stands so often from one place up to the next, and a repetition of it goes on there
-pub record Repeats (rules : Rules) (s : List Tok) (p : Part) (at next : ℕ) (vs : List Tree)
+pub record Repeats (rules : Rules) (s : List Tok) (p : Expression) (at next : ℕ) (vs : List Tree)
     : Type 0 where
   pub from : at ≤ next
   pub to : next ≤ length s
-  pub on : (ps : List Part)
+  pub on : (ps : List Expression)
       → read rules (drop at s) (Some (many p ∷ ps)) ≡ read rules (drop next s) (Some (many p ∷ ps))
-  pub made : (ps : List Part) (ws : List Tree) (w : Tree)
+  pub made : (ps : List Expression) (ws : List Tree) (w : Tree)
       → Derives rules (many p ∷ ps) (w ∷ ws) (drop next s)
       → Derives rules (many p ∷ ps) (chain vs w ∷ ws) (drop at s)

@@ -1,6 +1,6 @@
 -- The grammar of queries, line by line as docs/FORMATS.md has it but for `path`, and its rules.
 use Rattle.std.specs.Prelude.{ℕ, zero, suc, List, [], ◌∷◌, map, codes}
-use Rattle.tb_token.specs.grammar.Grammar.{Part, one, both, either, maybe, many, Rules, row}
+use Rattle.tb_token.specs.grammar.Grammar.{Expression, one, both, either, maybe, many, Rules, row}
 use Rattle.tb_token.specs.tokens.Lexemes.{terminal_of}
 use Rattle.tb_token.specs.declared.lexer.token.Kind.TheVariants.{Word, Sign}
 use Rattle.tb_token.specs.grammar.Terminals.{keyword, sign, name, variable, list_of, comma}
@@ -10,47 +10,47 @@ use Rattle.tb_token.specs.grammar.Results.{cons_rest, back}
 use Rattle.tb_token.specs.tokens.TerminalNames as terminals
 
 -- VARIABLE [ ALLOWING EMPTY ] IN longpath
-abbrev pub bind : Part
+abbrev pub bind : Expression
 bind =
     row variable (maybe (both (keyword (codes "ALLOWING")) (keyword (codes "EMPTY")))
     ∷ keyword (codes "IN") ∷ longpath ∷ [])
 
 -- FOR bind { "," bind } | LET VARIABLE ":=" longpath
-abbrev pub clause : Part
+abbrev pub clause : Expression
 clause =
     either (both (keyword (codes "FOR")) (list_of comma bind))
     (row (keyword (codes "LET")) (variable ∷ sign (codes ":=") ∷ longpath ∷ []))
 
 -- operand cmp ( operand | literal )
-abbrev pub cond : Part
+abbrev pub cond : Expression
 cond = row operand (cmp ∷ either operand literal ∷ [])
 
 -- WHERE cond { AND cond }
-abbrev pub where_part : Part
+abbrev pub where_part : Expression
 where_part = both (keyword (codes "WHERE")) (list_of (keyword (codes "AND")) cond)
 
 -- GROUP BY VARIABLE ":=" path
-abbrev pub group : Part
+abbrev pub group : Expression
 group = row (keyword (codes "GROUP")) (keyword (codes "BY") ∷ variable ∷ sign (codes ":=") ∷ path ∷ [])
 
 -- operand [ ASCENDING | DESCENDING ]
-abbrev pub key : Part
+abbrev pub key : Expression
 key =
     both operand
     (maybe (one (map (terminal_of Word) (codes "ASCENDING" ∷ codes "DESCENDING" ∷ []))))
 
 -- ORDER BY key { "," key }
-abbrev pub order : Part
+abbrev pub order : Expression
 order = row (keyword (codes "ORDER")) (keyword (codes "BY") ∷ list_of comma key ∷ [])
 
 -- clause { clause } [ where ] [ group ] [ order ] RETURN back
-abbrev pub flwor : Part
+abbrev pub flwor : Expression
 flwor =
     row clause (many clause ∷ maybe where_part ∷ maybe group ∷ maybe order
     ∷ keyword (codes "RETURN") ∷ back ∷ [])
 
 -- match | flwor
-abbrev pub query : Part
+abbrev pub query : Expression
 query = either match_query flwor
 
 -- edges and constructors; no rule has another number

@@ -1,6 +1,6 @@
 -- What holds of the grammar of queries.
 use Rattle.std.specs.Prelude.{◌≡◌, ◌↔◌, List, [], ◌∷◌}
-use Rattle.tb_token.specs.grammar.Grammar.{Tok, Part}
+use Rattle.tb_token.specs.grammar.Grammar.{Tok, Expression}
 use Rattle.tb_token.specs.grammar.Sentences.{Tree, Derives, AreSentence}
 use Rattle.tb_token.specs.grammar.LL1.{AreLL1, AreGood}
 use Rattle.tb_token.specs.grammar.Patterns.{match_query}
@@ -22,5 +22,5 @@ AreOneQuery =
 -- a path is what the grammar's text says, whatever stands behind it
 abbrev pub IsWrittenPath : Type 0
 IsWrittenPath =
-    (ps : List Part) (s : List Tok)
+    (ps : List Expression) (s : List Tok)
     → AreSentence rules (path ∷ ps) s ↔ AreSentence rules (written_path ∷ ps) s

@@ -3,22 +3,22 @@ use Rattle.std.specs.Prelude.{◌≡◌, ℕ, Bool, true, false, List, [], ◌�
 use Rattle.std.specs.Borrow.{Bor}
 use Rattle.tb_token.specs.grammar.Grammar as grammar
 use Rattle.tb_token.specs.grammar.Reading.{after}
-use Rattle.tb_token.specs.reading.View.{part_of}
+use Rattle.tb_token.specs.reading.View.{expression_of}
 use Rattle.tb_token.specs.reading.Machine.{Step, taken, passed, stuck}
-use Rattle.tb_token.specs.declared.reader.part.Part.{Part}
+use Rattle.tb_token.specs.declared.reader.expression.Expression.{Expression}
 use Rattle.tb_token.specs.declared.reader.take.Took.{Took}
 use Rattle.tb_token.specs.declared.reader.take.Took.TheVariants as took
 
 -- the parts from the top down
-abbrev pub parts_in : List (Bor Part) → List grammar.Part
-parts_in [] = []
-parts_in (p ∷ above) = parts_in above ++ part_of p.now ∷ []
+abbrev pub expressions_in : List (Bor Expression) → List grammar.Expression
+expressions_in [] = []
+expressions_in (p ∷ above) = expressions_in above ++ expression_of p.now ∷ []
 
 -- the stack has what a step leaves of a part, over what was there; where the part passes it is as
 -- before, and where it is stuck nothing is said of it
-abbrev pub HasTaken : Step → List (Bor Part) → List (Bor Part) → Took → Type 0
+abbrev pub HasTaken : Step → List (Bor Expression) → List (Bor Expression) → Took → Type 0
 HasTaken s before now took.Taken =
-    (ps : List grammar.Part) × (s ≡ taken ps) × (parts_in now ≡ ps ++ parts_in before)
+    (ps : List grammar.Expression) × (s ≡ taken ps) × (expressions_in now ≡ ps ++ expressions_in before)
 HasTaken s before now took.Passed = (s ≡ passed) × (now ≡ before)
 HasTaken s before now took.Stuck = s ≡ stuck
 
@@ -33,6 +33,6 @@ of_more took.Passed = took.Stuck
 of_more took.Stuck = took.Stuck
 
 -- the parts have taken the terminal, or cannot go on with it
-abbrev pub HaveGone : grammar.Rules → ℕ → List (Bor Part) → List (Bor Part) → Bool → Type 0
-HaveGone rules x before now true = after rules (parts_in before) x ≡ Some (parts_in now)
-HaveGone rules x before now false = after rules (parts_in before) x ≡ None
+abbrev pub HaveGone : grammar.Rules → ℕ → List (Bor Expression) → List (Bor Expression) → Bool → Type 0
+HaveGone rules x before now true = after rules (expressions_in before) x ≡ Some (expressions_in now)
+HaveGone rules x before now false = after rules (expressions_in before) x ≡ None

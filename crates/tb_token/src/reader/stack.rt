@@ -3,9 +3,9 @@
 ghost use Rattle.std.specs.Prelude.{◌≡◌, IfOk};
 ghost use Rattle.tb_token.specs.grammar.Reading.{may_end};
 ghost use Rattle.tb_token.specs.reading.View.{rules_of};
-ghost use Rattle.tb_token.specs.reading.Stack.{parts_in, HaveGone};
+ghost use Rattle.tb_token.specs.reading.Stack.{expressions_in, HaveGone};
 
-use crate::reader::part::{Grammar, Part, is_never_empty};
+use crate::reader::expression::{Expression, Grammar, is_never_empty};
 use crate::reader::take::{Took, take};
 use std::alloc::AllocError;
 
@@ -13,7 +13,7 @@ use std::alloc::AllocError;
 pub fn goes_on<'g>(
     grammar: &Grammar<'g>,
     terminal: u8,
-    stack: &mut Vec<&'g Part<'g>>,
+    stack: &mut Vec<&'g Expression<'g>>,
 ) -> Result<bool, AllocError>
     ensures { IfOk result (HaveGone (rules_of grammar.now) terminal stack.old.items stack.new.items) }
 {
@@ -28,8 +28,8 @@ pub fn goes_on<'g>(
 }
 
 /// Whether no part is left that must have a token. The stack is emptied for that.
-pub fn may_end<'g>(stack: &mut Vec<&'g Part<'g>>) -> bool
-    ensures { result ≡ may_end (parts_in stack.old.items) }
+pub fn may_end<'g>(stack: &mut Vec<&'g Expression<'g>>) -> bool
+    ensures { result ≡ may_end (expressions_in stack.old.items) }
 {
     'parts: while let Some(part) = stack.pop() {
         if is_never_empty(part) {

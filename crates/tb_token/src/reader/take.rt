@@ -1,13 +1,13 @@
 //! One part and one terminal.
 
 ghost use Rattle.std.specs.Prelude.{◌≡◌, IfOk, if◌then◌else◌};
-ghost use Rattle.tb_token.specs.reading.View.{part_of, rules_of};
+ghost use Rattle.tb_token.specs.reading.View.{expression_of, rules_of};
 ghost use Rattle.tb_token.specs.reading.Machine.{step};
 ghost use Rattle.tb_token.specs.declared.reader.take.Took.TheVariants.{Taken, Stuck};
 ghost use Rattle.tb_token.specs.reading.Stack.{HasTaken, is_passed, of_more};
 
 use crate::lexer::terminals::has;
-use crate::reader::part::{Grammar, Part, begins};
+use crate::reader::expression::{Expression, Grammar, begins};
 use std::alloc::AllocError;
 
 /// What a part did with a terminal.
@@ -45,16 +45,16 @@ impl Took {
 /// Lets the part take the terminal, and puts what is left of the part on the stack.
 pub fn take<'g>(
     grammar: &Grammar<'g>,
-    part: &'g Part<'g>,
+    part: &'g Expression<'g>,
     terminal: u8,
-    stack: &mut Vec<&'g Part<'g>>,
+    stack: &mut Vec<&'g Expression<'g>>,
 ) -> Result<Took, AllocError>
-    ensures { IfOk result (HasTaken (step (rules_of grammar.now) (part_of part.now) terminal)
+    ensures { IfOk result (HasTaken (step (rules_of grammar.now) (expression_of part.now) terminal)
         stack.old.items stack.new.items) }
 {
     match part {
-        Part::One(terminals) => Ok(taken_if(has(terminals, terminal))),
-        Part::Both(first, second) => {
+        Expression::One(terminals) => Ok(taken_if(has(terminals, terminal))),
+        Expression::Both(first, second) => {
             stack.push(second)?;
             let took = take(grammar, first, terminal, stack)?;
             if !took.is_passed() {
@@ -63,24 +63,24 @@ pub fn take<'g>(
             let _second = stack.pop();
             take(grammar, second, terminal, stack)
         }
-        Part::Either(first, _) if begins(first, terminal, false) => {
+        Expression::Either(first, _) if begins(first, terminal, false) => {
             take(grammar, first, terminal, stack)
         }
-        Part::Either(_, second) => take(grammar, second, terminal, stack),
-        Part::Maybe(inner) if begins(inner, terminal, false) => take(
+        Expression::Either(_, second) => take(grammar, second, terminal, stack),
+        Expression::Maybe(inner) if begins(inner, terminal, false) => take(
             grammar, inner, terminal, stack,
         ),
-        Part::Maybe(_) => Ok(Took::Passed),
-        Part::Many(inner) if begins(inner, terminal, false) => {
+        Expression::Maybe(_) => Ok(Took::Passed),
+        Expression::Many(inner) if begins(inner, terminal, false) => {
             stack.push(part)?;
             Ok(take(grammar, inner, terminal, stack)?.of_more())
         }
-        Part::Many(_) => Ok(Took::Passed),
-        Part::Opened(terminals, rule) if has(terminals, terminal) => {
+        Expression::Many(_) => Ok(Took::Passed),
+        Expression::Opened(terminals, rule) if has(terminals, terminal) => {
             stack.push(grammar.rule(*rule))?;
             Ok(Took::Taken)
         }
-        Part::Opened(_, _) => Ok(Took::Stuck),
+        Expression::Opened(_, _) => Ok(Took::Stuck),
     }
 }
 

@@ -4,7 +4,7 @@ ghost use Rattle.std.specs.Prelude.{◌≤◌, IfOk, length};
 ghost use Rattle.tb_token.specs.reading.Calls.{IsRead};
 
 use crate::lexer::lexeme::Lexeme;
-use crate::reader::part::Grammar;
+use crate::reader::expression::Grammar;
 use crate::reader::stack::{goes_on, may_end};
 use std::alloc::{AllocError, Global};
 

@@ -1,24 +1,27 @@
 //! What no clause says: that a grammar is read with ample memory, by texts whose wrong token was found
 //! by hand, and that parts inside each other cost no calls.
 
-use crate::{Grammar, Part, first_wrong, lexemes, tokens};
+use crate::{Expression, Grammar, first_wrong, lexemes, tokens};
 use std::alloc::{AllocError, Global};
 use std::test::Fail;
 
 // item = NAME | "(" [ item { "," item } ] ")"
 const OPEN: u8 = 20;
 
-const NAME: Part = Part::One(&[0]);
+const NAME: Expression = Expression::One(&[0]);
 
-const CLOSE: Part = Part::One(&[21]);
+const CLOSE: Expression = Expression::One(&[21]);
 
-const COMMA: Part = Part::One(&[26]);
+const COMMA: Expression = Expression::One(&[26]);
 
-const ITEM: Part = Part::Either(&NAME, &Part::Opened(&[OPEN], 0));
+const ITEM: Expression = Expression::Either(&NAME, &Expression::Opened(&[OPEN], 0));
 
-const MORE: Part = Part::Many(&Part::Both(&COMMA, &ITEM));
+const MORE: Expression = Expression::Many(&Expression::Both(&COMMA, &ITEM));
 
-const REST: Part = Part::Both(&Part::Maybe(&Part::Both(&ITEM, &MORE)), &CLOSE);
+const REST: Expression = Expression::Both(
+    &Expression::Maybe(&Expression::Both(&ITEM, &MORE)),
+    &CLOSE,
+);
 
 // The number of the wrong token, or 0 for an item.
 fn wrong_in(alloc: Global, text: &[u8]) -> Result<u32, AllocError> {
