@@ -1,8 +1,9 @@
 //! Whole joins, for callers that count no comparisons.
 
-ghost use Rattle.std.specs.Prelude.{◌≡◌, ◌^◌, ◌<◌, length, IfOk};
+ghost use Rattle.std.specs.Prelude.{◌≡◌, ◌+◌, ◌^◌, ◌<◌, ◌≤◌, [], length, IfOk};
 ghost use Rattle.tb_span.specs.Lists.{AreJoinable};
 ghost use Rattle.tb_stackjoin.specs.Pairs.{pairs_by_descendant};
+ghost use Rattle.tb_stackjoin.specs.Turns.{most_steps};
 
 use crate::by_descendant::join_desc;
 use std::alloc::{AllocError, Global};
@@ -42,7 +43,24 @@ fn uncounted<L: Ledger>(
         pairs.items ≡ pairs_by_descendant axis a.now d.now 0 (length d.now)) }
 {
     let mut steps = Steps::<L>::new(blank);
-    let end = d.len() as u32;
-    let pairs = join_desc(alloc, a, d, &[], 0, 0, end, axis, &mut steps)?;
+    let pairs = counted(alloc, a, d, axis, &mut steps)?;
     Ok(pairs)
+}
+
+/// The same with the bound of `join_desc` on what is counted.
+fn counted<L: Ledger>(
+    alloc: Global,
+    a: &[Item],
+    d: &[Item],
+    axis: Axis,
+    steps: &mut Steps<L>,
+) -> Result<Vec<Pair>, AllocError>
+    requires joinable { AreJoinable a.now d.now }
+    requires few { length d.now < 2 ^ 32 }
+    ensures pairs { IfOk result (λ pairs.
+        pairs.items ≡ pairs_by_descendant axis a.now d.now 0 (length d.now)) }
+    ensures cost { steps.new ≤ steps.old + most_steps a.now d.now [] 0 0 (length d.now) }
+{
+    let end = d.len() as u32;
+    join_desc(alloc, a, d, &[], 0, 0, end, axis, steps)
 }
