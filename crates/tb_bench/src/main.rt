@@ -93,12 +93,7 @@ fn tell_text(rt: &HostRuntime, tree: &Tree) -> io::Result<()>
 }
 
 /// Appends the value of a node.
-fn push_value(
-    alloc: Global,
-    tree: &Tree,
-    number: u32,
-    text: &mut Vec<u8>,
-) -> Result<(), AllocError>
+fn push_value(alloc: Global, tree: &Tree, number: u32, text: &mut Vec<u8>) -> Result<(), AllocError>
     requires some { 1 ≤ number }
     requires within { number ≤ count (plain_of tree.now) }
 {
