@@ -19,6 +19,7 @@ pub mod Rows
 pub mod Escapes
 pub mod Escaped
 pub mod Written
+pub mod Pieces
 pub mod Making
 pub mod NameTables
 pub mod Extents
