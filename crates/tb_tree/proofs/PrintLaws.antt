@@ -1,15 +1,11 @@
 -- What is appended piece by piece makes the printed lines.
-use Rattle.std.proofs.Common.{◌≡◌, ℕ, ◌+◌, ◌<◌, ◌≤◌, true, false, ◌&&◌, not, nat_le, ◌==◌, List, [], ◌∷◌, ◌++◌, length, get_or, drop, refl, sym, ap, ap₂, ◌∙◌, arith, rules, append_assoc}
+use Rattle.std.proofs.Common.{◌≡◌, ℕ, ◌≤◌, Bool, true, false, ◌&&◌, ◌||◌, not, nat_le, ◌==◌, List, [], ◌∷◌, ◌++◌, refl, sym, ap, ap₂, ◌∙◌, arith, append_assoc}
 use Rattle.std.specs.List.{list_all}
-use Rattle.std.proofs.lemmas.Bool.{and_parts, not-true, leb-true, le-ltb, ne_eqb, false≢true}
+use Rattle.std.proofs.lemmas.Bool.{and_parts, not-true, leb-true, le-ltb, ne_eqb}
+use Rattle.std.proofs.lemmas.List.Folds.{list_all-append}
 use Rattle.std.proofs.lemmas.Grind.{flat_map-append}
-use Rattle.tb_tree.specs.Plain.{Plain, elem, attr, text, Plains, no_kids, kid}
-use Rattle.tb_tree.specs.View.{plain_of, plains_of}
-use Rattle.tb_tree.specs.Sound.{is_attribute, has_no_attribute, attributes_first}
-use Rattle.tb_tree.specs.Printed.{escaped, escaped_byte, attribute_lines}
-use Rattle.tb_tree.specs.declared.node.Node.{Node, Elem', Attr, Text, the_lemmas}
-use Rattle.tb_tree.proofs.Views.{plain_of-Attr, plain_of-Text, plains_of-drop}
-use Rattle.tb_tree.specs.Written.{is_plain, IsGrown, CutsEscape}
+use Rattle.tb_tree.specs.Printed.{escaped, escaped_byte}
+use Rattle.tb_tree.specs.Written.{is_plain, has_escape, IsGrown, CutsEscape}
 
 -- A list that grows by pieces.
 pub grown : (a b c x : List ℕ) → IsGrown a b → c ≡ b ++ x → IsGrown a c
@@ -40,26 +36,16 @@ escaped-cut bytes run behind b cut =
     ap escaped cut.whole ∙ flat_map-append escaped_byte run (b ∷ behind) ∙ ap (λ l. l ++ (escaped_byte b ++ escaped behind)) (escaped-plain run cut.plain)
     ∙ sym (append_assoc run (escaped_byte b) (escaped behind))
 
--- The kids are attributes first.
-pub not_attribute : (node : Node) → ((name value : List ℕ) → node ≡ Attr name value → ⊥) → is_attribute (plain_of node) ≡ false
-not_attribute (Attr name value) never = absurd (never name value refl)
-not_attribute (Text value) never = ap is_attribute (plain_of-Text value)
-not_attribute (Elem' name shape kids) never = search (rules, the_lemmas)
+-- a byte that is escaped was met
+pub cut-told : (bytes run behind : List ℕ) (b : ℕ) → CutsEscape bytes run b behind → has_escape bytes ≡ true
+cut-told bytes run behind b cut =
+    ap has_escape cut.whole ∙ ap not (list_all-append is_plain run (b ∷ behind))
+    ∙ ap (λ r. not (list_all is_plain run && (r && list_all is_plain behind))) cut.escaped ∙ ap (λ l. not (l && false)) cut.plain
 
-lines-none : (ks : Plains) → has_no_attribute ks ≡ true → attribute_lines ks ≡ []
-lines-none no_kids e = refl
-lines-none (kid (elem v vs) ks) e = lines-none ks e
-lines-none (kid (attr v w) ks) e = absurd (false≢true e)
-lines-none (kid (text v) ks) e = lines-none ks e
+pub told-more : (before here whole : Bool) → here ≡ true → (before || here) ≡ whole → true ≡ whole
+told-more true here whole is e = e
+told-more false here whole is e = sym is ∙ e
 
-pub lines-end : (k : Plain) (ks : Plains) → is_attribute k ≡ false → attributes_first (kid k ks) ≡ true → attribute_lines (kid k ks) ≡ []
-lines-end (elem v vs) ks is first = lines-none ks first
-lines-end (attr v w) ks is first = absurd (false≢true (sym is))
-lines-end (text v) ks is first = lines-none ks first
-
--- the first of the kids that are left
-pub first-attribute : (nodes : List Node) (i : ℕ) (node : Node) (name value n v : List ℕ) → i < length nodes → node ≡ get_or nodes i node → node ≡ Attr name value → n ≡ name → v ≡ value
-    → plains_of (drop i nodes) ≡ kid (attr n v) (plains_of (drop (i + 1) nodes))
-first-attribute nodes i node name value n v within at is named valued =
-    plains_of-drop nodes i node within at
-    ∙ ap (λ p. kid p (plains_of (drop (i + 1) nodes))) (ap plain_of is ∙ plain_of-Attr name value ∙ ap₂ attr (sym named) (sym valued))
+pub told-end : (before plain whole : Bool) → plain ≡ true → (before || not plain) ≡ whole → before ≡ whole
+told-end true plain whole is e = e
+told-end false plain whole is e = ap not (sym is) ∙ e

@@ -7,32 +7,22 @@ ghost use Rattle.tb_tree.specs.Written.{is_plain, has_escape, IsGrown, NextEscap
 
 use std::alloc::AllocError;
 
-/// Appends the bytes, and says whether one of them was escaped.
-pub fn push_told(value: &[u8], out: &mut Vec<u8>) -> Result<bool, AllocError>
+/// Appends the bytes, runs of plain ones at once, and says whether one was escaped.
+pub fn push_escaped(value: &[u8], out: &mut Vec<u8>) -> Result<bool, AllocError>
     ensures told { IfOk result (λ told. told ≡ has_escape value.now) }
-    ensures escaped { OnOk result (out.new.items ≡ out.old.items ++ escaped value.now) }
-{
-    let Some(_cut) = next_escape(value) else {
-        out.extend_from_slice(value)?;
-        return Ok(false);
-    };
-    push_escaped(value, out)?;
-    Ok(true)
-}
-
-/// Appends the bytes, runs of plain ones at once.
-pub fn push_escaped(value: &[u8], out: &mut Vec<u8>) -> Result<(), AllocError>
     ensures escaped { OnOk result (out.new.items ≡ out.old.items ++ escaped value.now) }
     ensures front { IsGrown out.old.items out.new.items }
 {
     let mut rest = value;
+    let mut told = false;
     'runs: while let Some((run, byte, behind)) = next_escape(rest) {
         out.extend_from_slice(run)?;
         push_escape(byte, out)?;
         rest = behind;
+        told = true;
     }
     out.extend_from_slice(rest)?;
-    Ok(())
+    Ok(told)
 }
 
 /// The plain bytes at the front, the first byte that isn't plain, and what follows it.

@@ -2,7 +2,8 @@
 
 ghost use Rattle.std.specs.Prelude.{◌≡◌, ◌≤◌, ◌+◌, ◌++◌, ◌∷◌, [], ℕ, List, length, IsTrue, IfOk, OnOk, OnErr};
 ghost use Rattle.tb_tree.specs.View.{plain_of, plains_of};
-ghost use Rattle.tb_tree.specs.Sound.{is_attribute, attributes_first, are_sound, IsSound};
+ghost use Rattle.tb_tree.specs.Plain.{one};
+ghost use Rattle.tb_tree.specs.Sound.{is_attribute, are_sound};
 ghost use Rattle.tb_tree.specs.Printed.{
   printed,
   printed_node,
@@ -15,7 +16,7 @@ ghost use Rattle.tb_tree.specs.Printed.{
 ghost use Rattle.tb_tree.specs.Written.{named_line, has_escape, IsGrown};
 
 use crate::Node;
-use crate::escaped::{push_escaped, push_told};
+use crate::escaped::push_escaped;
 use std::alloc::{AllocError, Global};
 
 /// Appends the lines of the nodes, one node after the other. After a refusal `out` is as it was.
@@ -34,7 +35,6 @@ pub fn write_nodes(alloc: Global, nodes: &[Node], out: &mut Vec<u8>) -> Result<(
 }
 
 fn push_nodes(nodes: &[Node], out: &mut Vec<u8>) -> Result<(), AllocError>
-    requires sound { IsTrue (are_sound (plains_of nodes.now)) }
     ensures printed { OnOk result (out.new.items ≡ out.old.items ++ printed (plains_of nodes.now)) }
     ensures front { IsGrown out.old.items out.new.items }
 {
@@ -45,8 +45,7 @@ fn push_nodes(nodes: &[Node], out: &mut Vec<u8>) -> Result<(), AllocError>
 }
 
 #[cycle(printing)]
-fn push_node(node: &Node, out: &mut Vec<u8>) -> Result<(), AllocError>
-    requires sound { IsSound (plain_of node.now) }
+pub fn push_node(node: &Node, out: &mut Vec<u8>) -> Result<(), AllocError>
     ensures printed { OnOk result (out.new.items ≡ out.old.items
         ++ printed_node (plain_of node.now)) }
     ensures front { IsGrown out.old.items out.new.items }
@@ -58,15 +57,20 @@ fn push_node(node: &Node, out: &mut Vec<u8>) -> Result<(), AllocError>
             push_content(kids.as_slice(), out)?;
             push_named(b')', name.as_slice(), out)
         }
-        Node::Attr { name, value } => push_attribute(name.as_slice(), value.as_slice(), out),
-        Node::Text { value } => push_data(value.as_slice(), out),
+        Node::Attr { name, value } => {
+            push_attribute_told(name.as_slice(), value.as_slice(), out)?;
+            Ok(())
+        }
+        Node::Text { value } => {
+            push_data_told(value.as_slice(), out)?;
+            Ok(())
+        }
     }
 }
 
 /// The kids but for the attributes.
 #[cycle(printing)]
 fn push_content(kids: &[Node], out: &mut Vec<u8>) -> Result<(), AllocError>
-    requires sound { IsTrue (are_sound (plains_of kids.now)) }
     ensures printed { OnOk result (out.new.items ≡ out.old.items
         ++ content_lines (plains_of kids.now)) }
     ensures front { IsGrown out.old.items out.new.items }
@@ -89,42 +93,26 @@ fn is_attribute(node: &Node) -> bool
     }
 }
 
-/// The attributes, which stand first.
-fn push_attributes(kids: &[Node], out: &mut Vec<u8>) -> Result<(), AllocError>
-    requires first { IsTrue (attributes_first (plains_of kids.now)) }
+/// The attributes among the kids.
+pub fn push_attributes(kids: &[Node], out: &mut Vec<u8>) -> Result<(), AllocError>
     ensures printed { OnOk result (out.new.items ≡ out.old.items
         ++ attribute_lines (plains_of kids.now)) }
     ensures front { IsGrown out.old.items out.new.items }
 {
     'kids: for kid in kids {
-        let Node::Attr { name, value } = kid else {
-            return Ok(());
-        };
-        push_attribute(name.as_slice(), value.as_slice(), out)?;
+        push_if_attribute(kid, out)?;
     }
     Ok(())
 }
 
-fn push_attribute(name: &[u8], value: &[u8], out: &mut Vec<u8>) -> Result<(), AllocError>
-    ensures line { OnOk result (out.new.items ≡ out.old.items
-        ++ attribute_line name.now value.now) }
+fn push_if_attribute(node: &Node, out: &mut Vec<u8>) -> Result<(), AllocError>
+    ensures printed { OnOk result (out.new.items ≡ out.old.items
+        ++ attribute_lines (one (plain_of node.now))) }
     ensures front { IsGrown out.old.items out.new.items }
 {
-    out.push(b'A')?;
-    out.extend_from_slice(name)?;
-    out.extend_from_slice(b" CDATA ")?;
-    push_escaped(value, out)?;
-    out.push(b'\n')?;
-    Ok(())
-}
-
-fn push_data(value: &[u8], out: &mut Vec<u8>) -> Result<(), AllocError>
-    ensures line { OnOk result (out.new.items ≡ out.old.items ++ data_line value.now) }
-    ensures front { IsGrown out.old.items out.new.items }
-{
-    out.push(b'-')?;
-    push_escaped(value, out)?;
-    out.push(b'\n')?;
+    if let Node::Attr { name, value } = node {
+        push_attribute_told(name.as_slice(), value.as_slice(), out)?;
+    }
     Ok(())
 }
 
@@ -142,11 +130,12 @@ pub fn push_named(lead: u8, name: &[u8], out: &mut Vec<u8>) -> Result<(), AllocE
 pub fn push_attribute_told(name: &[u8], value: &[u8], out: &mut Vec<u8>) -> Result<bool, AllocError>
     ensures told { IfOk result (λ told. told ≡ has_escape value.now) }
     ensures line { OnOk result (out.new.items ≡ out.old.items ++ attribute_line name.now value.now) }
+    ensures front { IsGrown out.old.items out.new.items }
 {
     out.push(b'A')?;
     out.extend_from_slice(name)?;
     out.extend_from_slice(b" CDATA ")?;
-    let told = push_told(value, out)?;
+    let told = push_escaped(value, out)?;
     out.push(b'\n')?;
     Ok(told)
 }
@@ -155,9 +144,10 @@ pub fn push_attribute_told(name: &[u8], value: &[u8], out: &mut Vec<u8>) -> Resu
 pub fn push_data_told(value: &[u8], out: &mut Vec<u8>) -> Result<bool, AllocError>
     ensures told { IfOk result (λ told. told ≡ has_escape value.now) }
     ensures line { OnOk result (out.new.items ≡ out.old.items ++ data_line value.now) }
+    ensures front { IsGrown out.old.items out.new.items }
 {
     out.push(b'-')?;
-    let told = push_told(value, out)?;
+    let told = push_escaped(value, out)?;
     out.push(b'\n')?;
     Ok(told)
 }
@@ -170,7 +160,7 @@ pub fn lengthen_data(value: &[u8], out: &mut Vec<u8>) -> Result<bool, AllocError
     ensures grown { OnOk result (length out.new.items ≤ length out.old.items + 1 + length (escaped value.now)) }
 {
     out.pop();
-    let told = push_told(value, out)?;
+    let told = push_escaped(value, out)?;
     out.push(b'\n')?;
     Ok(told)
 }

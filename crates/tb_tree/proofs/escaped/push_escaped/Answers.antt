@@ -2,7 +2,7 @@
 use Rattle.std.proofs.Common.{◌≡◌, ◌++◌, sym, ap, ◌∙◌, append_assoc}
 use Rattle.tb_tree.specs.Printed.{escaped, escaped_byte}
 use Rattle.tb_tree.specs.Written.{CutsEscape}
-use Rattle.tb_tree.proofs.PrintLaws.{grown, written_more, escaped-plain, escaped-cut}
+use Rattle.tb_tree.proofs.PrintLaws.{grown, written_more, escaped-plain, escaped-cut, cut-told, told-more}
 use Rattle.tb_tree.proofs.escaped.push_escaped.Goals as goal
 
 pub runs-preserved : goal.runs-preserved
@@ -14,6 +14,7 @@ runs-preserved c =
     ∙ append_assoc c.runs.out.items c.in-Some.run'.now (escaped_byte c.in-Some.byte) in
     record {
       whole = written_more c.runs.out.items _ _ more _ (escaped c.in-Some.behind.now) is (escaped-cut c.runs.rest.now c.in-Some.run'.now c.in-Some.behind.now c.in-Some.byte cut) c.runs.invariant.whole;
+      told = told-more c.runs.told _ _ (cut-told c.runs.rest.now c.in-Some.run'.now c.in-Some.behind.now c.in-Some.byte cut) c.runs.invariant.told;
       front = grown c.args.out.now.items c.runs.out.items c.push_escape.new.out.items more c.runs.invariant.front is;
     }
 

@@ -1,6 +1,6 @@
-use Rattle.std.proofs.Common.{◌≡◌, ◌++◌, length}
+use Rattle.std.proofs.Common.{◌≡◌, ◌++◌, ◌||◌, length}
 use Rattle.tb_tree.specs.Printed.{escaped}
-use Rattle.tb_tree.specs.Written.{IsGrown}
+use Rattle.tb_tree.specs.Written.{has_escape, IsGrown}
 use Rattle.tb_tree.proofs.escaped.push_escaped.Given as goal
 
 abbrev pub decreases-runs : goal.decreases-runs
@@ -10,5 +10,6 @@ decreases-runs l = length l.rest
 abbrev pub invariant-runs : goal.invariant-runs
 invariant-runs l = record {
   whole : l.out.items ++ escaped l.rest ≡ l.initial.out.items ++ escaped l.value;
+  told : (l.told || has_escape l.rest) ≡ has_escape l.value;
   front : IsGrown l.initial.out.items l.out.items;
 }

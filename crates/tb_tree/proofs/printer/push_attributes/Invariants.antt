@@ -1,6 +1,5 @@
-use Rattle.std.proofs.Common.{◌≡◌, ◌++◌, drop, IsTrue}
+use Rattle.std.proofs.Common.{◌≡◌, ◌++◌, drop}
 use Rattle.tb_tree.specs.View.{plains_of}
-use Rattle.tb_tree.specs.Sound.{attributes_first}
 use Rattle.tb_tree.specs.Printed.{attribute_lines}
 use Rattle.tb_tree.specs.Written.{IsGrown}
 use Rattle.tb_tree.proofs.printer.push_attributes.Given as goal
@@ -8,7 +7,6 @@ use Rattle.tb_tree.proofs.printer.push_attributes.Given as goal
 -- what is written, with what is left, makes the whole
 abbrev pub invariant-kids : goal.invariant-kids
 invariant-kids l = record {
-  left : IsTrue (attributes_first (plains_of (drop l.kid-index l.kids)));
   whole : l.out.items ++ attribute_lines (plains_of (drop l.kid-index l.kids)) ≡ l.initial.out.items ++ attribute_lines (plains_of l.kids);
   front : IsGrown l.initial.out.items l.out.items;
 }

@@ -1,6 +1,5 @@
-use Rattle.std.proofs.Common.{◌≡◌, ◌++◌, drop, IsTrue}
+use Rattle.std.proofs.Common.{◌≡◌, ◌++◌, drop}
 use Rattle.tb_tree.specs.View.{plains_of}
-use Rattle.tb_tree.specs.Sound.{are_sound}
 use Rattle.tb_tree.specs.Printed.{printed}
 use Rattle.tb_tree.specs.Written.{IsGrown}
 use Rattle.tb_tree.proofs.printer.push_nodes.Given as goal
@@ -8,7 +7,6 @@ use Rattle.tb_tree.proofs.printer.push_nodes.Given as goal
 -- what is written, with what is left, makes the whole
 abbrev pub invariant-nodes : goal.invariant-nodes
 invariant-nodes l = record {
-  left : IsTrue (are_sound (plains_of (drop l.node-index l.nodes)));
   whole : l.out.items ++ printed (plains_of (drop l.node-index l.nodes)) ≡ l.initial.out.items ++ printed (plains_of l.nodes);
   front : IsGrown l.initial.out.items l.out.items;
 }
