@@ -21,4 +21,6 @@ pub mod BackLaws
 pub mod DoneLaws
 pub mod BuiltLaws
 pub mod NodeAtLaws
+pub mod SoundLaws
+pub mod PageLaws
 pub mod WorkedRows

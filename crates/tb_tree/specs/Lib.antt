@@ -20,6 +20,7 @@ pub mod Escapes
 pub mod Escaped
 pub mod Written
 pub mod Pieces
+pub mod Pages
 pub mod Making
 pub mod NameTables
 pub mod Extents

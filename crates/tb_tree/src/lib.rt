@@ -21,6 +21,7 @@ mod shape;
 mod tree;
 mod unescaped;
 mod values;
+mod writer;
 
 pub use against::Against;
 pub use bytes::Bytes;
@@ -35,3 +36,4 @@ pub use shape::{Shape, ShapeAttr, ShapeContent, ShapeElem, ShapePart};
 pub use tree::Tree;
 pub use unescaped::push_unescaped;
 pub use values::value;
+pub use writer::Writer;
