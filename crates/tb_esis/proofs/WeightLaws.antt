@@ -1,5 +1,5 @@
 -- What a line prints is at most four times as long as the line.
-use Rattle.std.proofs.Common.{◌≡◌, ℕ, ◌+◌, ◌*◌, ◌≤◌, Bool, true, false, ◌==◌, cond, List, [], ◌∷◌, length, refl, sym, arith}
+use Rattle.std.proofs.Common.{◌≡◌, ℕ, ◌+◌, ◌*◌, ◌≤◌, Bool, true, false, ◌==◌, cond, List, [], ◌∷◌, length, refl, sym, arith, ◌++◌, length-append}
 use Rattle.std.proofs.lemmas.Bool.{false≢true}
 use Rattle.tb_tree.specs.Sound.{is_empty_list}
 use Rattle.tb_esis.specs.Lines.{before_space, behind_space, attribute_of, line_of}
@@ -47,8 +47,8 @@ weight_fits [] = omega arith
 weight_fits (b ∷ rest) = by_case (b == 40) (b == 41) (b == 65) (b == 45) (b == 67) refl refl refl refl refl
   where
     by_case : (start end value text whole : Bool) → (b == 40) ≡ start → (b == 41) ≡ end → (b == 65) ≡ value → (b == 45) ≡ text → (b == 67) ≡ whole → weight (line_of (b ∷ rest)) ≤ 4 * length (b ∷ rest)
-    by_case true c a d f p q r s t = rw p (omega arith)
-    by_case false true a d f p q r s t = rw (p, q) (omega arith)
+    by_case true c a d f p q r s t = rw p (omega (arith, length-append rest (10 ∷ [])))
+    by_case false true a d f p q r s t = rw (p, q) (omega (arith, length-append rest (10 ∷ [])))
     by_case false false true d f p q r s t = rw (p, q, r) (omega (arith, attribute_fits rest))
     by_case false false false true f p q r s t = rw (p, q, r, s) (omega arith)
     by_case false false false false true p q r s t = rw (p, q, r, s, t) (omega arith)

@@ -3,6 +3,7 @@ use Rattle.std.specs.Prelude.{◌≡◌, ℕ, ◌+◌, ◌*◌, if◌then◌else
 use Rattle.std.specs.List.{list_any}
 use Rattle.std.specs.Str.{bytes_eq}
 use Rattle.tb_tree.specs.Sound.{is_empty_list}
+use Rattle.tb_tree.specs.Printed.{start_line, end_line}
 use Rattle.tb_tree.specs.Making.{Made, names_of, with_more_text}
 use Rattle.tb_tree.specs.Drafts.{Shows}
 use Rattle.tb_esis.specs.Lines.{Line, opens, closes, attribute, characters, conforms, passed_over}
@@ -25,8 +26,8 @@ said_by kind.PassedOver = passed_over
 
 -- how many bytes a line prints at most, where it has no fault
 abbrev pub weight : Line → ℕ
-weight (opens name) = 2 + length name
-weight (closes name) = 2 + length name
+weight (opens name) = length (start_line name)
+weight (closes name) = length (end_line name)
 weight (attribute name type raw) = if is_empty_list type then 0 else 9 + length name + 4 * length raw
 weight (characters raw) = 2 + 4 * length raw
 weight conforms = 0

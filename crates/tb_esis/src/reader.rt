@@ -7,7 +7,8 @@ ghost use Rattle.std.specs.Str.{bytes_eq};
 ghost use Rattle.tb_tree.specs.Sound.{is_empty_list};
 ghost use Rattle.tb_tree.specs.Escapes.{unescaped};
 ghost use Rattle.tb_tree.specs.Making.{Made, nothing_made, names_of, with_attribute};
-ghost use Rattle.tb_tree.specs.Drafts.{HasRoom};
+ghost use Rattle.tb_tree.specs.Drafts.{HasRoom, size_of};
+ghost use Rattle.tb_tree.specs.Printed.{attribute_line, escaped};
 ghost use Rattle.tb_esis.specs.Lines.{opens, closes, attribute, characters, conforms, line_of};
 ghost use Rattle.tb_esis.specs.Readers.{weight, IsReading, ReadsLine, TakesData};
 
@@ -33,7 +34,7 @@ pub struct Reader<'a> {
 impl<'a> Reader<'a> {
     pub fn new(alloc: Global) -> Result<Reader<'a>, AllocError>
         ensures reading { IfOk result (λ reader. IsReading reader nothing_made) }
-        ensures empty { IfOk result (λ reader. length reader.draft.text.items ≡ 0) }
+        ensures empty { IfOk result (λ reader. size_of reader.draft ≡ 0) }
     {
         Ok(Reader {
             draft: Draft::new(alloc)?,
@@ -58,7 +59,7 @@ impl<'a> Reader<'a> {
     ) -> Result<(), EsisFault>
         requires room { HasRoom self.old.draft (4 * length line.now) }
         ensures read { (m : Made) → IsReading self.old m → ReadsLine (line_of line.now) number m self.new result }
-        ensures grown { OnOk result (length self.new.draft.text.items ≤ length self.old.draft.text.items + 4 * length line.now) }
+        ensures grown { OnOk result (size_of self.new.draft ≤ size_of self.old.draft + 4 * length line.now) }
     {
         match line_of(line) {
             Line::Opens(name) => self.open(name, number),
@@ -73,7 +74,7 @@ impl<'a> Reader<'a> {
     fn open(&mut self, name: &[u8], number: u32) -> Result<(), EsisFault>
         requires room { HasRoom self.old.draft (weight (opens name.now)) }
         ensures read { (m : Made) → IsReading self.old m → ReadsLine (opens name.now) number m self.new result }
-        ensures grown { OnOk result (length self.new.draft.text.items ≤ length self.old.draft.text.items + weight (opens name.now)) }
+        ensures grown { OnOk result (size_of self.new.draft ≤ size_of self.old.draft + weight (opens name.now)) }
     {
         if !is_name(name) {
             return Err(EsisFault::BadName(number));
@@ -93,7 +94,7 @@ impl<'a> Reader<'a> {
     fn close(&mut self, name: &[u8], number: u32) -> Result<(), EsisFault>
         requires room { HasRoom self.old.draft (weight (closes name.now)) }
         ensures read { (m : Made) → IsReading self.old m → ReadsLine (closes name.now) number m self.new result }
-        ensures grown { OnOk result (length self.new.draft.text.items ≤ length self.old.draft.text.items + weight (closes name.now)) }
+        ensures grown { OnOk result (size_of self.new.draft ≤ size_of self.old.draft + weight (closes name.now)) }
     {
         if self.draft.is_waiting() {
             return Err(EsisFault::BadAttribute(number));
@@ -115,7 +116,7 @@ impl<'a> Reader<'a> {
     ) -> Result<(), EsisFault>
         requires room { HasRoom self.old.draft (weight (attribute name.now kind.now raw.now)) }
         ensures read { (m : Made) → IsReading self.old m → ReadsLine (attribute name.now kind.now raw.now) number m self.new result }
-        ensures grown { OnOk result (length self.new.draft.text.items ≤ length self.old.draft.text.items + weight (attribute name.now kind.now raw.now)) }
+        ensures grown { OnOk result (size_of self.new.draft ≤ size_of self.old.draft + weight (attribute name.now kind.now raw.now)) }
     {
         if !is_name(name) {
             return Err(EsisFault::BadName(number));
@@ -137,10 +138,10 @@ impl<'a> Reader<'a> {
 
     /// The attribute waits.
     fn add(&mut self, name: &'a [u8], value: &[u8]) -> Result<(), AllocError>
-        requires room { HasRoom self.old.draft (9 + length name.now + 4 * length value.now) }
+        requires room { HasRoom self.old.draft (length (attribute_line name.now value.now)) }
         ensures added { OnOk result ((m : Made) → IsReading self.old m → list_any (bytes_eq name.now) (names_of m.waiting) ≡ false
             → IsReading self.new (with_attribute m name.now value.now)) }
-        ensures grown { OnOk result (length self.new.draft.text.items ≤ length self.old.draft.text.items + (9 + length name.now + 4 * length value.now)) }
+        ensures grown { OnOk result (size_of self.new.draft ≡ size_of self.old.draft + length (attribute_line name.now value.now)) }
     {
         self.names.insert(name)?;
         self.draft.attribute(name, value)?;
@@ -150,7 +151,7 @@ impl<'a> Reader<'a> {
     fn go_on(&mut self, raw: &[u8], number: u32, scratch: &mut Vec<u8>) -> Result<(), EsisFault>
         requires room { HasRoom self.old.draft (weight (characters raw.now)) }
         ensures read { (m : Made) → IsReading self.old m → ReadsLine (characters raw.now) number m self.new result }
-        ensures grown { OnOk result (length self.new.draft.text.items ≤ length self.old.draft.text.items + weight (characters raw.now)) }
+        ensures grown { OnOk result (size_of self.new.draft ≤ size_of self.old.draft + weight (characters raw.now)) }
     {
         let Some(value) = given(raw, scratch)? else {
             return Err(EsisFault::BadEscape(number));
@@ -160,9 +161,9 @@ impl<'a> Reader<'a> {
 
     /// The text goes on with these bytes.
     fn take_data(&mut self, value: &[u8], number: u32) -> Result<(), EsisFault>
-        requires room { HasRoom self.old.draft (2 + 4 * length value.now) }
+        requires room { HasRoom self.old.draft (2 + length (escaped value.now)) }
         ensures read { (m : Made) → IsReading self.old m → TakesData value.now number m self.new result }
-        ensures grown { OnOk result (length self.new.draft.text.items ≤ length self.old.draft.text.items + (2 + 4 * length value.now)) }
+        ensures grown { OnOk result (size_of self.new.draft ≤ size_of self.old.draft + (2 + length (escaped value.now))) }
     {
         if self.draft.is_waiting() {
             return Err(EsisFault::BadAttribute(number));

@@ -1,5 +1,5 @@
 -- How long lines are.
-use Rattle.std.proofs.Common.{◌≡◌, ℕ, ◌+◌, ◌*◌, ◌≤◌, Bool, true, false, ◌||◌, nat_lt, ◌==◌, codes, List, [], ◌∷◌, ◌++◌, length, refl, ap, arith, length-append}
+use Rattle.std.proofs.Common.{◌≡◌, ℕ, ◌+◌, ◌*◌, ◌≤◌, Bool, true, false, ◌||◌, nat_lt, ◌==◌, codes, List, [], ◌∷◌, ◌++◌, length, refl, ap, ◌∙◌, arith, length-append}
 use Rattle.tb_tree.specs.Printed.{escaped_byte, escaped, attribute_line, data_line}
 
 byte-length : (b : ℕ) → length (escaped_byte b) ≤ 4
@@ -20,9 +20,13 @@ pub attribute-length : (name value : List ℕ) → length (attribute_line name v
 attribute-length name value =
     omega (arith, escaped-length value, length-append ((name ++ codes " CDATA ") ++ escaped value) (10 ∷ []), length-append (name ++ codes " CDATA ") (escaped value), length-append name (codes " CDATA "))
 
-pub data-length : (value : List ℕ) → length (data_line value) ≤ 2 + 4 * length value
-data-length value = omega (arith, escaped-length value, length-append (escaped value) (10 ∷ []))
+-- a text with a line more
+pub grown-line : (old new line : List ℕ) → new ≡ old ++ line → length new ≡ length old + length line
+grown-line old new line is = ap length is ∙ length-append old line
 
--- the text that grew fits
-pub fits : (old new line : List ℕ) (most len : ℕ) → new ≡ old ++ line → len ≡ length new → length line ≤ most → len ≤ length old + most
-fits old new line most len is long short = omega (arith, ap length is, length-append old line, long, short)
+pub attribute-some : (name value : List ℕ) → 9 ≤ length (attribute_line name value)
+attribute-some name value =
+    omega (arith, length-append ((name ++ codes " CDATA ") ++ escaped value) (10 ∷ []), length-append (name ++ codes " CDATA ") (escaped value), length-append name (codes " CDATA "))
+
+pub data-line-length : (value : List ℕ) → length (data_line value) ≡ 2 + length (escaped value)
+data-line-length value = omega (arith, length-append (escaped value) (10 ∷ []))

@@ -100,13 +100,20 @@ pub record Shows (d : Draft) (m : Made) : Type 0 where
   pub few_elements : length d.elements ≤ length d.text.items
   pub few_attributes : length d.attributes ≤ length d.text.items
 
+-- how many bytes its lines have, and how many elements are open
+abbrev pub size_of : Draft → ℕ
+size_of d = length d.text.items
+
+abbrev pub depth_of : Draft → ℕ
+depth_of d = length d.stack.items
+
 -- the draft has room for so many bytes more, and for one element more inside each other
 pub record HasRoom (d : Draft) (more : ℕ) : Type 0 where
-  pub room : length d.text.items + more < 2 ^ 32
-  pub few : length d.extents.items ≤ length d.text.items
-  pub deep : length d.stack.items ≤ 512
-  pub elements : length d.elements ≤ length d.text.items
-  pub attributes : length d.attributes ≤ length d.text.items
+  pub room : size_of d + more < 2 ^ 32
+  pub few : length d.extents.items ≤ size_of d
+  pub deep : depth_of d ≤ 512
+  pub elements : length d.elements ≤ size_of d
+  pub attributes : length d.attributes ≤ size_of d
 
 -- the extent in which the number, the end or more of the text is known
 abbrev pub begun_extent : code.Extent → ℕ → code.Extent

@@ -1,10 +1,11 @@
 //! A document that is being made: its lines are appended, and each node's extent is noted.
 
-ghost use Rattle.std.specs.Prelude.{◌≡◌, ◌≤◌, ◌+◌, ◌*◌, true, false, not, [], None, length, OnOk, IfOk};
+ghost use Rattle.std.specs.Prelude.{◌≡◌, ◌<◌, ◌≤◌, ◌+◌, true, false, not, [], None, length, IsTrue, OnOk, IfOk, IfSome};
 ghost use Rattle.std.specs.Option.{option_map};
 ghost use Rattle.tb_tree.specs.Making.{Made, nothing_made, is_innermost, innermost_name, has_begun, with_attribute, with_element, with_more_text, with_text_ended, with_element_ended};
 ghost use Rattle.tb_tree.specs.Sound.{is_empty_list};
-ghost use Rattle.tb_tree.specs.Drafts.{is_none, Shows, HasRoom, IsInside, IsDone};
+ghost use Rattle.tb_tree.specs.Drafts.{is_none, Shows, HasRoom, IsInside, IsDone, size_of, depth_of};
+ghost use Rattle.tb_tree.specs.Printed.{attribute_line, start_line, end_line, escaped};
 ghost use Rattle.tb_tree.specs.Plain.{Plain};
 ghost use Rattle.tb_tree.specs.View.{plain_of};
 
@@ -74,10 +75,10 @@ impl Draft {
 
     /// One attribute more waits for its element.
     pub fn attribute(&mut self, name: &[u8], value: &[u8]) -> Result<(), AllocError>
-        requires room { HasRoom self.old (9 + length name.now + 4 * length value.now) }
+        requires room { HasRoom self.old (length (attribute_line name.now value.now)) }
         ensures shown { OnOk result ((m : Made) → Shows self.old m
             → Shows self.new (with_attribute m name.now value.now)) }
-        ensures grown { OnOk result (length self.new.text.items ≤ length self.old.text.items + (9 + length name.now + 4 * length value.now)) }
+        ensures grown { OnOk result (size_of self.new ≡ size_of self.old + length (attribute_line name.now value.now)) }
     {
         let number = self.attributes.number(self.alloc, name)?;
         let at = self.text.len() as u32;
@@ -100,10 +101,10 @@ impl Draft {
 
     /// An element begins, with the attributes that waited.
     pub fn start(&mut self, name: &[u8]) -> Result<(), AllocError>
-        requires room { HasRoom self.old (2 + length name.now) }
+        requires room { HasRoom self.old (length (start_line name.now)) }
         ensures shown { OnOk result ((m : Made) → m.root ≡ None → Shows self.old m
             → Shows self.new (with_element m name.now)) }
-        ensures grown { OnOk result (length self.new.text.items ≤ length self.old.text.items + (2 + length name.now)) }
+        ensures grown { OnOk result (size_of self.new ≡ size_of self.old + length (start_line name.now)) }
     {
         let number = self.elements.number(self.alloc, name)?;
         let at = self.text.len() as u32;
@@ -120,10 +121,10 @@ impl Draft {
 
     /// The text goes on, or begins.
     pub fn more_text(&mut self, value: &[u8]) -> Result<(), AllocError>
-        requires room { HasRoom self.old (2 + 4 * length value.now) }
+        requires room { HasRoom self.old (2 + length (escaped value.now)) }
         ensures shown { OnOk result ((m : Made) → m.waiting ≡ [] → IsInside m.frames value.now
             → Shows self.old m → Shows self.new (with_more_text m value.now)) }
-        ensures grown { OnOk result (length self.new.text.items ≤ length self.old.text.items + (2 + 4 * length value.now)) }
+        ensures grown { OnOk result (size_of self.new ≤ size_of self.old + (2 + length (escaped value.now))) }
     {
         if value.is_empty() {
             return Ok(());
@@ -135,11 +136,11 @@ impl Draft {
     }
 
     fn lengthen(&mut self, value: &[u8]) -> Result<(), AllocError>
-        requires room { HasRoom self.old (2 + 4 * length value.now) }
+        requires room { HasRoom self.old (2 + length (escaped value.now)) }
         requires some { is_empty_list value.now ≡ false }
         ensures shown { OnOk result ((m : Made) → m.waiting ≡ [] → IsInside m.frames value.now → self.old.is_going ≡ true
             → Shows self.old m → Shows self.new (with_more_text m value.now)) }
-        ensures grown { OnOk result (length self.new.text.items ≤ length self.old.text.items + (2 + 4 * length value.now)) }
+        ensures grown { OnOk result (size_of self.new ≤ size_of self.old + (2 + length (escaped value.now))) }
     {
         let escaped = lengthen_data(value, &mut self.text)?;
         let last = self.extents.len().saturating_sub(1);
@@ -148,11 +149,11 @@ impl Draft {
     }
 
     fn begin_text(&mut self, value: &[u8]) -> Result<(), AllocError>
-        requires room { HasRoom self.old (2 + 4 * length value.now) }
+        requires room { HasRoom self.old (2 + length (escaped value.now)) }
         requires some { is_empty_list value.now ≡ false }
         ensures shown { OnOk result ((m : Made) → m.waiting ≡ [] → IsInside m.frames value.now → self.old.is_going ≡ false
             → Shows self.old m → Shows self.new (with_more_text m value.now)) }
-        ensures grown { OnOk result (length self.new.text.items ≤ length self.old.text.items + (2 + 4 * length value.now)) }
+        ensures grown { OnOk result (size_of self.new ≤ size_of self.old + (2 + length (escaped value.now))) }
     {
         let from = self.text.len() as u32;
         let escaped = push_data_told(value, &mut self.text)?;
@@ -172,7 +173,8 @@ impl Draft {
 
     /// Whether the innermost element has the name.
     pub fn is_innermost(&self, name: &[u8]) -> bool
-        ensures { (m : Made) → Shows self.now m → result ≡ is_innermost name.now m.frames }
+        ensures innermost { (m : Made) → Shows self.now m → result ≡ is_innermost name.now m.frames }
+        ensures open { IsTrue result → 0 < depth_of self.now }
     {
         match self.innermost() {
             Some(open) => open == name,
@@ -182,7 +184,8 @@ impl Draft {
 
     /// The name of the innermost element.
     fn innermost(&self) -> Option<&[u8]>
-        ensures { (m : Made) → Shows self.now m → option_map (λ name. name.now) result ≡ innermost_name m.frames }
+        ensures name { (m : Made) → Shows self.now m → option_map (λ name. name.now) result ≡ innermost_name m.frames }
+        ensures open { IfSome result (λ name. 0 < depth_of self.now) }
     {
         let place = *self.stack.last()?;
         let extent = self.extents.get(place as usize)?;
@@ -191,13 +194,14 @@ impl Draft {
 
     /// The innermost element ends, which has the name.
     pub fn end(&mut self, name: &[u8]) -> Result<(), AllocError>
-        requires room { HasRoom self.old (2 + length name.now) }
+        requires open { 0 < depth_of self.old }
+        requires room { HasRoom self.old (length (end_line name.now)) }
         ensures shown { OnOk result ((m : Made) → m.waiting ≡ [] → is_innermost name.now m.frames ≡ true
             → Shows self.old m → Shows self.new (with_element_ended (with_text_ended m))) }
-        ensures grown { OnOk result (length self.new.text.items ≤ length self.old.text.items + (2 + length name.now)) }
+        ensures grown { OnOk result (size_of self.new ≡ size_of self.old + length (end_line name.now)) }
     {
         let Some(place) = self.stack.pop() else {
-            return Ok(());
+            unreachable!();
         };
         push_named(b')', name, &mut self.text)?;
         let last = self.extents.len() as u32;

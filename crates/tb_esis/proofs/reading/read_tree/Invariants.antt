@@ -1,4 +1,5 @@
 use Rattle.std.proofs.Common.{◌≡◌, ◌+◌, ◌*◌, ◌≤◌, length}
+use Rattle.tb_tree.specs.Drafts.{size_of}
 use Rattle.tb_tree.specs.Making.{Made, nothing_made}
 use Rattle.tb_esis.specs.Lines.{document_lines}
 use Rattle.tb_esis.specs.Faults.{first_fault, fault_of}
@@ -18,4 +19,4 @@ invariant-lines l =
     × (made_of m (document_lines l.rest) ≡ made_of nothing_made (document_lines l.lines))
     × (l.number + length l.rest ≤ 1 + length l.lines)
     × (length m.frames ≤ 512)
-    × (length l.reader.draft.text.items + 4 * length l.rest ≤ 4 * length l.lines)
+    × (size_of l.reader.draft + 4 * length l.rest ≤ 4 * length l.lines)

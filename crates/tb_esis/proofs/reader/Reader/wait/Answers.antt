@@ -7,6 +7,8 @@ use Rattle.tb_tree.specs.Names.{is_name}
 use Rattle.tb_tree.specs.Sound.{is_empty_list}
 use Rattle.tb_tree.specs.Making.{names_of}
 use Rattle.tb_tree.specs.Escapes.{unescaped}
+use Rattle.tb_tree.specs.Printed.{attribute_line}
+use Rattle.tb_tree.proofs.LengthLaws.{attribute-length}
 use Rattle.tb_tree.proofs.GivenLaws.{given-length}
 use Rattle.tb_tree.proofs.DoneLaws.{less-room}
 use Rattle.tb_esis.specs.Lines.{is_implied}
@@ -50,7 +52,7 @@ add-requires c =
     let typed : is_empty_list type ≡ false = sym c.is_empty.ensures ∙ c.if-is_empty.false in
     let read : unescaped raw ≡ Some value = sym c.in_ok-value.ensures ∙ ap (option_map (λ bytes. bytes.now)) c.in-Some.is in
     let short = given-length raw value read in
-    record { room = less-room c.args.self.now.draft (9 + length name + 4 * length raw) (9 + length name + 4 * length value) (rw typed at c.requires.room) (omega (arith, short)) }
+    record { room = less-room c.args.self.now.draft (9 + length name + 4 * length raw) (length (attribute_line name value)) (rw typed at c.requires.room) (omega (arith, short, attribute-length name value)) }
 
 pub returns-clause-read : goal.returns-clause-read
 returns-clause-read c = λ m reading.
@@ -78,4 +80,4 @@ returns-clause-grown c =
     let read : unescaped raw ≡ Some value = sym c.in_ok-value.ensures ∙ ap (option_map (λ bytes. bytes.now)) c.in-Some.is in
     let short = given-length raw value read in
     let grown = c.in_ok-add.ensures.grown in
-    rw typed (omega (arith, grown, short))
+    rw typed (omega (arith, grown, short, attribute-length c.args.name.now value))

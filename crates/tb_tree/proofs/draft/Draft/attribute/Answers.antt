@@ -1,16 +1,14 @@
 -- The attribute's extent stands behind the place that is kept for its element.
-use Rattle.std.proofs.Common.{◌+◌, ◌*◌, length, refl, arith}
+use Rattle.std.proofs.Common.{◌+◌, refl, arith}
 use Rattle.tb_tree.specs.Printed.{attribute_line}
-use Rattle.tb_tree.proofs.LengthLaws.{fits, attribute-length}
+use Rattle.tb_tree.proofs.LengthLaws.{grown-line, attribute-some}
 use Rattle.tb_tree.proofs.AttributeLaws.{shows-attribute}
 use Rattle.tb_tree.proofs.draft.Draft.attribute.Goals as goal
 
 pub overflow_cast-extent : goal.overflow_cast-extent
 overflow_cast-extent c =
     let out = c.push_attribute_told.new.out in
-    let name = c.args.name.now in
-    let value = c.args.value.now in
-    let long = fits c.args.self.now.text.items out.items (attribute_line name value) (9 + length name + 4 * length value) (length out.items) c.in_ok-escaped.ensures.line refl (attribute-length name value) in
+    let long = grown-line c.args.self.now.text.items out.items (attribute_line c.args.name.now c.args.value.now) c.in_ok-escaped.ensures.line in
     omega (arith, c.len-2.ensures, c.requires.room, out.ok.0, long)
 
 pub returns-clause-shown : goal.returns-clause-shown
@@ -22,8 +20,4 @@ returns-clause-shown c = λ m s.
     c.in_ok-push.ensures.items refl refl refl refl
 
 pub returns-clause-grown : goal.returns-clause-grown
-returns-clause-grown c =
-    let name = c.args.name.now in
-    let value = c.args.value.now in
-    let out = c.push_attribute_told.new.out in
-    fits c.args.self.now.text.items out.items (attribute_line name value) (9 + length name + 4 * length value) (length out.items) c.in_ok-escaped.ensures.line refl (attribute-length name value)
+returns-clause-grown c = grown-line _ _ _ c.in_ok-escaped.ensures.line

@@ -1,7 +1,7 @@
 -- The text's extent stands behind all others.
-use Rattle.std.proofs.Common.{◌+◌, ◌*◌, length, refl, arith}
+use Rattle.std.proofs.Common.{◌+◌, refl, arith}
 use Rattle.tb_tree.specs.Printed.{data_line}
-use Rattle.tb_tree.proofs.LengthLaws.{fits, data-length}
+use Rattle.tb_tree.proofs.LengthLaws.{grown-line, data-line-length}
 use Rattle.tb_tree.proofs.TextLaws.{shows-begun_text}
 use Rattle.tb_tree.proofs.draft.Draft.begin_text.Goals as goal
 
@@ -9,8 +9,8 @@ pub overflow_cast-extent : goal.overflow_cast-extent
 overflow_cast-extent c =
     let out = c.push_data_told.new.out in
     let value = c.args.value.now in
-    let long = fits c.args.self.now.text.items out.items (data_line value) (2 + 4 * length value) (length out.items) c.in_ok-escaped.ensures.line refl (data-length value) in
-    omega (arith, c.len.ensures, c.requires.room, out.ok.0, long)
+    let long = grown-line c.args.self.now.text.items out.items (data_line value) c.in_ok-escaped.ensures.line in
+    omega (arith, c.len.ensures, c.requires.room, out.ok.0, long, data-line-length value)
 
 pub returns-clause-shown : goal.returns-clause-shown
 returns-clause-shown c = λ m none inside not_going s.
@@ -21,5 +21,4 @@ returns-clause-shown c = λ m none inside not_going s.
 pub returns-clause-grown : goal.returns-clause-grown
 returns-clause-grown c =
     let value = c.args.value.now in
-    let out = c.push_data_told.new.out in
-    fits c.args.self.now.text.items out.items (data_line value) (2 + 4 * length value) (length out.items) c.in_ok-escaped.ensures.line refl (data-length value)
+    omega (arith, grown-line c.args.self.now.text.items _ (data_line value) c.in_ok-escaped.ensures.line, data-line-length value)

@@ -5,14 +5,14 @@ use Rattle.tb_tree.proofs.KeptLaws.{no_extent}
 use Rattle.tb_tree.proofs.EndLaws.{innermost-last}
 use Rattle.tb_tree.proofs.draft.Draft.innermost.Goals as goal
 
-pub returns-in_err-extent : goal.returns-in_err-extent
-returns-in_err-extent c = λ m s.
+pub returns-in_err-extent-clause-name : goal.returns-in_err-extent-clause-name
+returns-in_err-extent-clause-name c = λ m s.
     let last = c.in_ok-place.ensures.item in
     let found = innermost-last c.args.self.now m c.deref.result.now c.in_ok-place.field-0.now s c.deref.ensures.value last.3.0 last.1 in
     absurd (omega (arith, c.in_err-extent.ensures.lookup.3, found.2, ap length c.deref-2.ensures.value))
 
-pub returns : goal.returns
-returns c = λ m s.
+pub returns-clause-name : goal.returns-clause-name
+returns-clause-name c = λ m s.
     let last = c.in_ok-place.ensures.item in
     let place = c.in_ok-place.field-0.now in
     let found = innermost-last c.args.self.now m c.deref.result.now place s c.deref.ensures.value last.3.0 last.1 in
