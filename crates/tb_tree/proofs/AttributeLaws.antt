@@ -23,7 +23,7 @@ waiting-lines ws name value =
     ap attribute_lines (plains-append ws (attr name value ∷ [])) ∙ attribute_lines-joined (plains ws) (one (attr name value))
     ∙ ap (λ l. attribute_lines (plains ws) ++ l) (append-nil (attribute_line name value))
 
-attribute-text : (m : Made) (name value : List ℕ) → shown_text m ++ attribute_line name value ≡ shown_text (with_attribute m name value)
+pub attribute-text : (m : Made) (name value : List ℕ) → shown_text m ++ attribute_line name value ≡ shown_text (with_attribute m name value)
 attribute-text m name value =
     append_assoc (begun_text m.root (going m)) (attribute_lines (plains m.waiting)) (attribute_line name value)
     ∙ ap (λ l. begun_text m.root (going m) ++ l) (sym (waiting-lines m.waiting name value))

@@ -19,6 +19,8 @@ pub mod EndLaws
 pub mod StandLaws
 pub mod BackLaws
 pub mod DoneLaws
+pub mod PlantLaws
+pub mod PlantSteps
 pub mod BuiltLaws
 pub mod NodeAtLaws
 pub mod SoundLaws

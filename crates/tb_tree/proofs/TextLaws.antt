@@ -70,7 +70,7 @@ extents-none m none =
     ap (λ ws. begun_extents m.root (going m) ++ waiting_extents (length (begun_text m.root (going m))) (length (begun_extents m.root (going m)) + 1) (length m.frames + 1) ws) none
     ∙ append-nil _
 
-nothing-goes : (m : Made) → m.running ≡ [] → going m ≡ m.frames
+pub nothing-goes : (m : Made) → m.running ≡ [] → going m ≡ m.frames
 nothing-goes m none = ap (λ r. put (text_of r) m.frames) none ∙ put-none m.frames
 
 pub shows-begun_text : (d d' : Draft) (m : Made) (value : List ℕ) (from to last level : ℕ) (told : Bool) → m.waiting ≡ [] → IsInside m.frames value → d.is_going ≡ false → is_empty_list value ≡ false → Shows d m

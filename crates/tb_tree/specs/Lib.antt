@@ -25,4 +25,5 @@ pub mod Making
 pub mod NameTables
 pub mod Extents
 pub mod Drafts
+pub mod Planting
 pub mod FlatTrees

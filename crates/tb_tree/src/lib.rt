@@ -16,6 +16,7 @@ mod names;
 mod node;
 mod node_test;
 mod noting;
+mod planting;
 mod printer;
 mod shape;
 mod tree;
