@@ -1,9 +1,12 @@
 -- The nodes of a document with their labels: the rows that a store keeps.
-use Rattle.std.specs.Prelude.{◌≡◌, ◌↔◌, ℕ, ◌+◌, ◌*◌, ◌<◌, List, [], ◌∷◌, ◌++◌, map, filter, length}
+use Rattle.std.specs.Prelude.{◌≡◌, ◌↔◌, ℕ, Bool, ◌+◌, ◌*◌, ◌<◌, List, [], ◌∷◌, ◌++◌, map, filter, length}
 use Rattle.tb_span.specs.Span.{Span, Encloses, IsParent, IsAbove, IsBefore}
+use Rattle.tb_span.specs.Lists.{is_related}
+use Rattle.tb_span.specs.declared.item.Axis.{Axis}
+use Rattle.tb_span.specs.declared.item.Axis.TheVariants.{Child, Descendant}
 use Rattle.tb_span.specs.declared.item.Item.{Item}
-use Rattle.tb_tree.specs.Plain.{Plain, elem, attr, text, Plains, no_kids, kid}
-use Rattle.tb_tree.specs.Numbers.{counts, count, Numbered}
+use Rattle.tb_tree.specs.Plain.{Plain, elem, attr, text, Plains, no_kids, kid, one}
+use Rattle.tb_tree.specs.Numbers.{counts, count, Numbered, kids_numbered, all_numbered}
 use Rattle.tb_tree.specs.Places.{IsAncestor, Placed}
 use Rattle.tb_tree.specs.Meets.{meets}
 use Rattle.tb_tree.specs.declared.node_test.Test.{Test}
@@ -60,6 +63,30 @@ rows_of root = rows 2 1 0 [] 0 (kid root no_kids)
 -- the label of the document node
 abbrev pub document_label : Plain → Span
 document_label root = record { start = 1; end = 2 * count root + 2; level = 0 }
+
+-- The document node's row: it stands above all others, like an element whose one kid is the root.
+abbrev pub document_row : Plain → Row
+document_row root = record {
+  place = [];
+  number = 0;
+  parent = 0;
+  turn = 0;
+  label = document_label root;
+  node = elem [] (one root);
+}
+
+-- the document node's row and all others
+abbrev pub table : Plain → List Row
+table root = document_row root ∷ rows_of root
+
+-- the second row is on the axis of the first, by their labels
+abbrev pub is_on : Axis → Row → Row → Bool
+is_on axis r s = is_related axis r.label s.label
+
+-- the nodes on the axis of a node with these kids, the first of which has the number n
+abbrev pub numbered_on : Axis → ℕ → Plains → List Numbered
+numbered_on Child n kids = kids_numbered n kids
+numbered_on Descendant n kids = all_numbered n kids
 
 -- the row without its label: a node with its place, and a node with its number
 abbrev pub placed_of : Row → Placed
