@@ -7,7 +7,7 @@ use Rattle.tb_tree.specs.Numbers.{counts, count}
 use Rattle.tb_tree.specs.Printed.{printed_node, attribute_lines, content_lines, attribute_line, data_line, start_line, end_line, escaped}
 use Rattle.tb_tree.specs.Extents.{Extent, attribute_extent, text_extent, extents, extents_of, named}
 use Rattle.tb_tree.specs.Escapes.{unescaped}
-use Rattle.tb_tree.specs.FlatTrees.{given, value_behind, kids_at, first_of, root_read, node_of, nodes_from, Stands, AreNodes, IsDocument, IsPlaced}
+use Rattle.tb_tree.specs.FlatTrees.{given, raw_behind, value_behind, kids_at, first_of, root_read, node_of, nodes_from, Stands, AreNodes, IsDocument}
 use Rattle.tb_tree.specs.View.{plain_of, plains_of}
 use Rattle.tb_tree.specs.declared.extent.Extent as code
 use Rattle.tb_tree.specs.declared.node.Node.{Node}
@@ -44,21 +44,25 @@ joined-none : (ks : Plains) → joined_kids ks no_kids ≡ ks
 joined-none no_kids = refl
 joined-none (kid k rest) = ap (kid k) (joined-none rest)
 
--- the value of an attribute and of a text
-pub attribute-value : (bytes : List ℕ) (at last level : ℕ) (name value : List ℕ) → Stands bytes at (attribute_line name value) → value_behind bytes (8 + length name) (attribute_extent at last name value level) ≡ value
-attribute-value bytes at last level name value s =
-    let front = 65 ∷ (name ++ codes " CDATA ") in
-    let long : length front ≡ 8 + length name = omega (arith, length-append name (codes " CDATA ")) in
+-- the value of an attribute and of a text as it stands in its line
+pub raw-attribute : (bytes : List ℕ) (at : ℕ) (name value : List ℕ) → Stands bytes at (attribute_line name value) → raw_behind bytes (8 + length name) at (at + length (attribute_line name value)) ≡ escaped value
+raw-attribute bytes at name value s =
+    let before = 65 ∷ (name ++ codes " CDATA ") in
+    let long : length before ≡ 8 + length name = omega (arith, length-append name (codes " CDATA ")) in
     let most : at + length (attribute_line name value) - at - (8 + length name + 1) ≡ length (escaped value) =
     omega (arith, length-append ((name ++ codes " CDATA ") ++ escaped value) (10 ∷ []), length-append (name ++ codes " CDATA ") (escaped value), length-append name (codes " CDATA ")) in
-    ap₂ (λ m b. given (unescaped (take m (drop (at + b) bytes)))) most (sym long)
-    ∙ ap (λ l. given (unescaped l)) (stands-between bytes at front (escaped value) (10 ∷ []) s) ∙ ap given (unescaped-escaped value)
+    ap₂ (λ m b. take m (drop (at + b) bytes)) most (sym long) ∙ stands-between bytes at before (escaped value) (10 ∷ []) s
+
+pub raw-text : (bytes : List ℕ) (at : ℕ) (value : List ℕ) → Stands bytes at (data_line value) → raw_behind bytes 1 at (at + length (data_line value)) ≡ escaped value
+raw-text bytes at value s =
+    let most : at + length (data_line value) - at - (1 + 1) ≡ length (escaped value) = omega (arith, length-append (escaped value) (10 ∷ [])) in
+    ap (λ m. take m (drop (at + 1) bytes)) most ∙ stands-between bytes at (45 ∷ []) (escaped value) (10 ∷ []) s
+
+pub attribute-value : (bytes : List ℕ) (at last level : ℕ) (name value : List ℕ) → Stands bytes at (attribute_line name value) → value_behind bytes (8 + length name) (attribute_extent at last name value level) ≡ value
+attribute-value bytes at last level name value s = ap (λ l. given (unescaped l)) (raw-attribute bytes at name value s) ∙ ap given (unescaped-escaped value)
 
 pub text-value : (bytes : List ℕ) (at last level : ℕ) (value : List ℕ) → Stands bytes at (data_line value) → value_behind bytes 1 (text_extent at last value level) ≡ value
-text-value bytes at last level value s =
-    let most : at + length (data_line value) - at - (1 + 1) ≡ length (escaped value) = omega (arith, length-append (escaped value) (10 ∷ [])) in
-    ap (λ m. given (unescaped (take m (drop (at + 1) bytes)))) most
-    ∙ ap (λ l. given (unescaped l)) (stands-between bytes at (45 ∷ []) (escaped value) (10 ∷ []) s) ∙ ap given (unescaped-escaped value)
+text-value bytes at last level value s = ap (λ l. given (unescaped l)) (raw-text bytes at value s) ∙ ap given (unescaped-escaped value)
 
 -- Kids come back from their lines and extents.
 pub kids-back : (bytes : List ℕ) (a c n level : ℕ) (ks : Plains) (more : List Extent) → Stands bytes a (attribute_lines ks) → Stands bytes c (content_lines ks) → Stops bytes level more
@@ -129,13 +133,12 @@ pub document-count : (bytes : List ℕ) (es : List code.Extent) (elements attrib
 document-count bytes es elements attributes root d =
     sym (length-map es (named (elements ++ []) (attributes ++ []))) ∙ ap length (d.extents_are [] []) ∙ length-extents 0 0 1 1 (one root)
 
-pub placed-moved : (bytes : List ℕ) (es fs : List code.Extent) (elements names attributes others : List (List ℕ)) (root : Plain) → IsDocument bytes es elements attributes root
-    → fs ≡ es → names ≡ elements → others ≡ attributes → IsPlaced root fs names others
-placed-moved bytes es fs elements names attributes others root d p q r =
-    subst (λ x. IsPlaced root x names others) (sym p)
-    (subst (λ x. IsPlaced root es x others) (sym q)
-    (subst (λ x. IsPlaced root es elements x) (sym r)
-    (record { extents_are = d.extents_are; elements_apart = d.elements_apart; attributes_apart = d.attributes_apart })))
+pub document-moved : (bytes lines : List ℕ) (es fs : List code.Extent) (elements names attributes others : List (List ℕ)) (root : Plain) → IsDocument bytes es elements attributes root
+    → lines ≡ bytes → fs ≡ es → names ≡ elements → others ≡ attributes → IsDocument lines fs names others root
+document-moved bytes lines es fs elements names attributes others root d p q r t =
+    subst (λ x. IsDocument x fs names others root) (sym p)
+    (subst (λ x. IsDocument bytes x names others root) (sym q)
+    (subst (λ x. IsDocument bytes es x others root) (sym r) (subst (λ x. IsDocument bytes es elements x root) (sym t) d)))
 
 content-root : (bytes : List ℕ) (root : Plain) → IsTrue (is_element root) → bytes ≡ printed_node root → Stands bytes 0 (attribute_lines (one root)) × Stands bytes 0 (content_lines (one root))
 content-root bytes (elem name kids) element is =
@@ -147,18 +150,14 @@ content-root bytes (attr name value) element is = absurd (false≢true element)
 content-root bytes (text value) element is = absurd (false≢true element)
 
 -- The extents of a document are those of its root.
-pub document-nodes : (bytes lines : List ℕ) (es fs : List code.Extent) (elements names attributes others : List (List ℕ)) (root : Plain) → IsDocument bytes es elements attributes root
-    → lines ≡ bytes → fs ≡ es → names ≡ elements → others ≡ attributes → AreNodes lines (map (named names others) fs) 1 1 (one root)
-document-nodes bytes lines es fs elements names attributes others root d p q r t =
+pub document-nodes : (bytes : List ℕ) (es : List code.Extent) (elements attributes : List (List ℕ)) (root : Plain) → IsDocument bytes es elements attributes root
+    → AreNodes bytes (map (named elements attributes) es) 1 1 (one root)
+document-nodes bytes es elements attributes root d =
     let stands = content-root bytes root d.element d.text_is in
-    subst (λ x. AreNodes x (map (named names others) fs) 1 1 (one root)) (sym p)
-    (subst (λ x. AreNodes bytes (map (named names others) x) 1 1 (one root)) (sym q)
-    (subst (λ x. AreNodes bytes (map (named x others) es) 1 1 (one root)) (sym r)
-    (subst (λ x. AreNodes bytes (map (named elements x) es) 1 1 (one root)) (sym t)
-    (record {
+    record {
       attributes_at = 0;
       content_at = 0;
       extents_are = ap₂ (λ x y. map (named x y) es) (sym (append-nil elements)) (sym (append-nil attributes)) ∙ d.extents_are [] [];
       attributes_stand = stands.0;
       content_stands = stands.1;
-    }))))
+    }

@@ -22,7 +22,8 @@ pub mod DoneLaws
 pub mod PlantLaws
 pub mod PlantSteps
 pub mod BuiltLaws
-pub mod NodeAtLaws
 pub mod SoundLaws
+pub mod NodeAtLaws
+pub mod PieceLaws
 pub mod PageLaws
 pub mod WorkedRows

@@ -1,23 +1,17 @@
 -- The extent of the n-th node of a document, and those of all that is below it.
-use Rattle.std.proofs.Common.{◌≡◌, Bool, true, false, not, codes, ℕ, zero, suc, ◌+◌, ◌-◌, ◌<◌, ◌≤◌, List, [], ◌∷◌, ◌++◌, length, map, take, drop, get_or, refl, sym, ap, ap₂, ◌∙◌, subst, arith, append_assoc, append-nil, length-append, ⊎_elim}
-use Rattle.std.proofs.lemmas.Bool.{cases_lt, false≢true}
-use Rattle.std.specs.List.{list_all}
-use Rattle.std.proofs.lemmas.List.{drop_at, take_at, take-map, drop-append-le, drop_more, get_or-map, get_or_append_left, get_or-append_right}
+use Rattle.std.proofs.Common.{◌≡◌, ℕ, zero, suc, ◌+◌, ◌-◌, ◌<◌, ◌≤◌, List, [], ◌∷◌, ◌++◌, length, map, take, drop, get_or, refl, sym, ap, ◌∙◌, subst, arith, append_assoc, append-nil, length-append, ⊎_elim}
+use Rattle.std.proofs.lemmas.Bool.{cases_lt}
+use Rattle.std.proofs.lemmas.List.{take_at, take-map, drop-append-le, drop_more, get_or-map, get_or_append_left, get_or-append_right}
 use Rattle.tb_tree.specs.Plain.{Plain, elem, attr, text, Plains, no_kids, kid, one}
 use Rattle.tb_tree.specs.Numbers.{counts, count}
 use Rattle.tb_tree.specs.Nodes.{nodes_of, depths, node_at, level_at}
-use Rattle.tb_tree.specs.Printed.{printed_node, attribute_lines, content_lines, start_line, end_line, attribute_line, data_line, escaped}
-use Rattle.tb_tree.specs.Value.{value_of}
-use Rattle.tb_tree.specs.Written.{is_plain, has_escape}
-use Rattle.tb_tree.specs.declared.extent.Kind.{Kind}
-use Rattle.tb_tree.specs.declared.extent.Kind.TheVariants as kind
-use Rattle.tb_tree.proofs.PrintLaws.{escaped-plain}
+use Rattle.tb_tree.specs.Printed.{printed_node, attribute_lines, content_lines, start_line, end_line, attribute_line, data_line}
 use Rattle.tb_tree.specs.Extents.{Extent, element_extent, attribute_extent, text_extent, extents, slice_of, named, kind_of, name_of, is_escaped}
 use Rattle.tb_tree.specs.declared.extent.Extent as code
 use Rattle.tb_tree.specs.FlatTrees.{Stands, AreNodes, IsDocument}
 use Rattle.tb_tree.proofs.StandLaws.{stands-first, stands-behind}
 use Rattle.tb_tree.proofs.JoinedLaws.{length-extents}
-use Rattle.tb_tree.proofs.BuiltLaws.{same_cons, drop-map}
+use Rattle.tb_tree.proofs.BuiltLaws.{same_cons, drop-map, no-node}
 use Rattle.tb_tree.proofs.BackLaws.{document-nodes, document-count}
 
 -- the extents begin with those of this node, whose lines stand in the bytes
@@ -210,7 +204,7 @@ tells-at bytes es root number d are some within =
 pub document-tells : (bytes : List ℕ) (es : List code.Extent) (elements attributes : List (List ℕ)) (root : Plain) (number : ℕ) (d : code.Extent) → IsDocument bytes es elements attributes root → 1 ≤ number → number ≤ count root
     → Tells bytes (named elements attributes (get_or es (number - 1) d)) number (level_at root number) (node_at root number)
 document-tells bytes es elements attributes root number d document some within =
-    let nodes = document-nodes bytes bytes es es elements elements attributes attributes root document refl refl refl refl in
+    let nodes = document-nodes bytes es elements attributes root document in
     let N = named elements attributes in
     let less : number - 1 < length es = omega (arith, document-count bytes es elements attributes root document, some, within) in
     subst (λ x. Tells bytes x number (level_at root number) (node_at root number)) (get_or-map N es (number - 1) d (N d) less) (tells-at bytes (map N es) root number (N d) nodes some within)
@@ -237,43 +231,24 @@ nodes-at bytes es root number width are some within wide =
       content_stands = begins.content_stands;
     }
 
--- The node is built from these extents alone.
-pub document-node : (bytes lines : List ℕ) (es own : List code.Extent) (elements names attributes others : List (List ℕ)) (root : Plain) (number width : ℕ) → IsDocument bytes es elements attributes root
-    → lines ≡ bytes → names ≡ elements → others ≡ attributes → 1 ≤ number → number ≤ count root → width ≡ count (node_at root number) → own ≡ take width (drop (number - 1) es)
-    → AreNodes lines (map (named names others) own) number (level_at root number) (one (node_at root number))
-document-node bytes lines es own elements names attributes others root number width document p q r some within wide own_is =
-    let N = named names others in
-    let nodes = document-nodes bytes lines es es elements names attributes others root document p refl q r in
-    subst (λ l. AreNodes lines l number (level_at root number) (one (node_at root number)))
+-- These extents alone are those of the node.
+pub document-node : (bytes : List ℕ) (es own : List code.Extent) (elements attributes : List (List ℕ)) (root : Plain) (number : ℕ) (d : code.Extent) → IsDocument bytes es elements attributes root → 1 ≤ number → number ≤ count root
+    → own ≡ take ((get_or es (number - 1) d).last + 1 - number) (drop (number - 1) es) → AreNodes bytes (map (named elements attributes) own) number (level_at root number) (one (node_at root number))
+document-node bytes es own elements attributes root number d document some within own_is =
+    let N = named elements attributes in
+    let width = (get_or es (number - 1) d).last + 1 - number in
+    let last = (document-tells bytes es elements attributes root number d document some within).last_is in
+    let wide : width ≡ count (node_at root number) = omega (arith, last) in
+    subst (λ l. AreNodes bytes l number (level_at root number) (one (node_at root number)))
     (ap (take width) (sym (drop-map N (number - 1) es)) ∙ take-map N width (drop (number - 1) es) ∙ ap (map N) (sym own_is))
-    (nodes-at lines (map N es) root number width nodes some within wide)
+    (nodes-at bytes (map N es) root number width (document-nodes bytes es elements attributes root document) some within wide)
 
-plain-value : (value : List ℕ) → has_escape value ≡ false → escaped value ≡ value
-plain-value value none = escaped-plain value (not-false (list_all is_plain value) none)
-  where
-    not-false : (b : Bool) → not b ≡ false → b ≡ true
-    not-false true e = refl
-    not-false false e = absurd (false≢true (sym e))
-
--- A value without an escape stands in the node's line.
-pub lent-text : (node : Plain) (line : List ℕ) → kind_of node ≡ kind.Text → is_escaped node ≡ false → line ≡ printed_node node → take (length line - (1 + 1)) (drop 1 line) ≡ value_of node
-lent-text (elem name kids) line is plain lines = absurd (let d : ◌≡◌ {A = Kind} kind.Element kind.Text = is in cc)
-lent-text (attr name value) line is plain lines = absurd (let d : ◌≡◌ {A = Kind} kind.Attribute kind.Text = is in cc)
-lent-text (text value) line is plain lines =
-    let most : length (data_line value) - (1 + 1) ≡ length (escaped value) = omega (arith, length-append (escaped value) (10 ∷ [])) in
-    ap (λ l. take (length l - (1 + 1)) (drop 1 l)) lines ∙ ap (λ n. take n (escaped value ++ 10 ∷ [])) most
-    ∙ take_at (escaped value) (10 ∷ []) (length (escaped value)) refl ∙ plain-value value plain
-
-pub lent-attribute : (node : Plain) (line : List ℕ) (before : ℕ) → kind_of node ≡ kind.Attribute → is_escaped node ≡ false → line ≡ printed_node node → before ≡ 8 + length (name_of node)
-    → take (length line - (before + 1)) (drop before line) ≡ value_of node
-lent-attribute (elem name kids) line before is plain lines at = absurd (let d : ◌≡◌ {A = Kind} kind.Element kind.Attribute = is in cc)
-lent-attribute (attr name value) line before is plain lines at =
-    let front = 65 ∷ (name ++ codes " CDATA ") in
-    let tail = escaped value ++ 10 ∷ [] in
-    let whole : attribute_line name value ≡ front ++ tail = ap (λ l. 65 ∷ l) (append_assoc (name ++ codes " CDATA ") (escaped value) (10 ∷ [])) in
-    let long : length front ≡ before = omega (arith, at, length-append name (codes " CDATA ")) in
-    let most : length (front ++ tail) - (before + 1) ≡ length (escaped value) = omega (arith, long, length-append front tail, length-append (escaped value) (10 ∷ [])) in
-    ap (λ l. take (length l - (before + 1)) (drop before l)) (lines ∙ whole)
-    ∙ ap₂ (λ n l. take n l) most (drop_at front tail before long)
-    ∙ take_at (escaped value) (10 ∷ []) (length (escaped value)) refl ∙ plain-value value plain
-lent-attribute (text value) line before is plain lines at = absurd (let d : ◌≡◌ {A = Kind} kind.Text kind.Attribute = is in cc)
+-- The first extent of a node tells of it.
+pub part-tells : (bytes : List ℕ) (es : List code.Extent) (elements attributes : List (List ℕ)) (number level : ℕ) (node : Plain) (d : code.Extent) → AreNodes bytes (map (named elements attributes) es) number level (one node)
+    → Tells bytes (named elements attributes (get_or es 0 d)) number level node
+part-tells bytes [] elements attributes number level node d are =
+    absurd (let e : ◌≡◌ {A = Plains} (kid node no_kids) no_kids = no-node bytes number level (one node) are in cc)
+part-tells bytes (e ∷ es) elements attributes number level node d are =
+    let N = named elements attributes in
+    tells-node bytes (N e) (map N es) are.attributes_at are.content_at number level [] node
+    (are.extents_are ∙ sym (append-nil (extents are.attributes_at are.content_at number level (one node)))) are.attributes_stand are.content_stands

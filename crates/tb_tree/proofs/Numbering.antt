@@ -1,5 +1,5 @@
 -- Numbers and counts of nodes next to each other: the first node, and then the others.
-use Rattle.std.proofs.Common.{◌≡◌, ℕ, ◌+◌, ◌∷◌, ◌++◌, sym, ap, ap₂, arith, append-nil}
+use Rattle.std.proofs.Common.{◌≡◌, ℕ, ◌+◌, ◌≤◌, ◌∷◌, ◌++◌, sym, ap, ap₂, arith, append-nil}
 use Rattle.tb_tree.specs.Plain.{Plain, elem, attr, text, Plains, no_kids, kid}
 use Rattle.tb_tree.specs.Numbers.{counts, count, all_numbered}
 
@@ -7,6 +7,11 @@ pub counts-kid : (k : Plain) (rest : Plains) → counts (kid k rest) ≡ count k
 counts-kid (elem name kids) rest = omega arith
 counts-kid (attr name value) rest = omega arith
 counts-kid (text value) rest = omega arith
+
+pub some-count : (node : Plain) → 1 ≤ count node
+some-count (elem name kids) = omega arith
+some-count (attr name value) = omega arith
+some-count (text value) = omega arith
 
 pub all_numbered-kid : (n : ℕ) (k : Plain) (rest : Plains) → all_numbered n (kid k rest) ≡ all_numbered n (kid k no_kids) ++ all_numbered (n + count k) rest
 all_numbered-kid n (elem name kids) rest =

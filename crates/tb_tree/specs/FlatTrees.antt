@@ -17,9 +17,13 @@ abbrev pub given : Option (List ℕ) → List ℕ
 given None = []
 given (Some bytes) = bytes
 
+-- what stands in a line, which has these bytes of all, behind so many and before its end
+abbrev pub raw_behind : List ℕ → ℕ → ℕ → ℕ → List ℕ
+raw_behind bytes before from to = take (to - from - (before + 1)) (drop (from + before) bytes)
+
 -- the value in the line of an extent, behind its first bytes
 abbrev pub value_behind : List ℕ → ℕ → Extent → List ℕ
-value_behind bytes before e = given (unescaped (take (e.to - e.from - (before + 1)) (drop (e.from + before) bytes)))
+value_behind bytes before e = given (unescaped (raw_behind bytes before e.from e.to))
 
 -- the node of an extent, which has these kids
 abbrev pub node_by : List ℕ → Extent → Plains → Kind → Plain
@@ -87,6 +91,11 @@ pub record AreNodes (bytes : List ℕ) (es : List Extent) (number level : ℕ) (
   pub extents_are : es ≡ extents attributes_at content_at number level nodes
   pub attributes_stand : Stands bytes attributes_at (attribute_lines nodes)
   pub content_stands : Stands bytes content_at (content_lines nodes)
+
+-- The extents are those of one node and of all below it.
+abbrev pub IsOneNode : List ℕ → List code.Extent → List (List ℕ) → List (List ℕ) → ℕ → Type 0
+IsOneNode bytes es elements attributes number =
+    (level : ℕ) × (node : Plain) × AreNodes bytes (map (named elements attributes) es) number level (one node)
 
 -- an extent where none stands
 abbrev pub no_extent : code.Extent

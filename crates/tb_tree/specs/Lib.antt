@@ -27,3 +27,4 @@ pub mod Extents
 pub mod Drafts
 pub mod Planting
 pub mod FlatTrees
+pub mod Parts

@@ -12,15 +12,15 @@ texts_listed (kid (elem name kids) rest) = texts_listed kids ++ texts_listed res
 texts_listed (kid (attr name value) rest) = texts_listed rest
 texts_listed (kid (text value) rest) = value ∷ texts_listed rest
 
--- the only one of the pieces, no byte where there is none, and nothing where there are more
-abbrev pub only_piece : List (List ℕ) → Option (List ℕ)
-only_piece [] = Some []
-only_piece (piece ∷ []) = Some piece
-only_piece (piece ∷ other ∷ pieces) = None
+-- the only element of a list, d where it has none, and nothing where it has more
+abbrev pub only_of : {X : Type 0} → X → List X → Option X
+only_of d [] = Some d
+only_of d (x ∷ []) = Some x
+only_of d (x ∷ y ∷ xs) = None
 
 -- the value where it lies in one piece: of an element that has at most one text below it
 abbrev pub piece_of : Plain → Option (List ℕ)
-piece_of (elem name kids) = only_piece (texts_listed kids)
+piece_of (elem name kids) = only_of [] (texts_listed kids)
 piece_of (attr name value) = Some value
 piece_of (text value) = Some value
 

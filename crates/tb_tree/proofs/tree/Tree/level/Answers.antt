@@ -1,13 +1,10 @@
--- The extent of that number tells of the node.
-use Rattle.std.proofs.Common.{◌≡◌, ◌-◌, get_or, ap, ◌∙◌}
-use Rattle.tb_tree.specs.View.{plain_of}
+-- The first extent tells of the node.
+use Rattle.std.proofs.Common.{ap, ◌∙◌}
 use Rattle.tb_tree.specs.FlatTrees.{no_extent}
-use Rattle.tb_tree.proofs.BackLaws.{opened}
-use Rattle.tb_tree.proofs.NodeAtLaws.{document-tells}
+use Rattle.tb_tree.proofs.NodeAtLaws.{part-tells}
 use Rattle.tb_tree.proofs.tree.Tree.level.Goals as goal
 
 pub returns : goal.returns
 returns c =
-    let t = document-tells _ _ _ _ (plain_of c.args.self.now) c.args.number no_extent (opened _ _ _ _ _ _ c.self.invariant c.self.view_is) c.requires.some c.requires.within in
-    let is : c.extent_at.result ≡ get_or c.self.inside.extents.items (c.args.number - 1) no_extent = c.extent_at.ensures ∙ ap (λ l. get_or l (c.args.number - 1) no_extent) c.deref.ensures.value in
-    ap (λ x. x.level) is ∙ t.level_is
+    let t = part-tells _ c.part.result.extents.now _ _ _ _ _ no_extent c.part.ensures.nodes in
+    ap (λ x. x.level) c.extent_at.ensures ∙ t.level_is

@@ -1,15 +1,12 @@
--- The extent of that number tells of the node.
-use Rattle.std.proofs.Common.{◌≡◌, ◌-◌, get_or, take, drop, ap, ap₂, ◌∙◌}
-use Rattle.tb_tree.specs.View.{plain_of}
+-- The first extent tells of the node.
+use Rattle.std.proofs.Common.{◌-◌, take, drop, ap, ◌∙◌}
 use Rattle.tb_tree.specs.FlatTrees.{no_extent}
-use Rattle.tb_tree.proofs.BackLaws.{opened}
-use Rattle.tb_tree.proofs.NodeAtLaws.{document-tells}
+use Rattle.tb_tree.proofs.NodeAtLaws.{part-tells}
 use Rattle.tb_tree.proofs.tree.Tree.printed.Goals as goal
 
-pub returns : goal.returns
-returns c =
-    let t = document-tells _ _ _ _ (plain_of c.args.self.now) c.args.number no_extent (opened _ _ _ _ _ _ c.self.invariant c.self.view_is) c.requires.some c.requires.within in
-    let is : c.extent_at-extent.result ≡ get_or c.self.inside.extents.items (c.args.number - 1) no_extent = c.extent_at-extent.ensures ∙ ap (λ l. get_or l (c.args.number - 1) no_extent) c.deref.ensures.value in
-    let lines = c.self.inside.text.items in
-    c.within.ensures ∙ ap₂ (λ n b. take n (drop c.extent_at-extent.result.from b)) c.saturating_sub.ensures c.deref-2.ensures.value
-    ∙ ap (λ x. take (x.to - x.from) (drop x.from lines)) is ∙ t.printed
+pub returns-clause-lines : goal.returns-clause-lines
+returns-clause-lines c =
+    let t = part-tells _ c.part-part.result.extents.now _ _ _ _ _ no_extent c.part-part.ensures.nodes in
+    let lines = c.part-part.result.text.now in
+    c.within.ensures ∙ ap (λ n. take n (drop c.extent_at-extent.result.from lines)) c.saturating_sub.ensures
+    ∙ ap (λ x. take (x.to - x.from) (drop x.from lines)) c.extent_at-extent.ensures ∙ t.printed
