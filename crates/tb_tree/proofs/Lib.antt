@@ -25,5 +25,6 @@ pub mod BuiltLaws
 pub mod SoundLaws
 pub mod NodeAtLaws
 pub mod PieceLaws
+pub mod ContentLaws
 pub mod PageLaws
 pub mod WorkedRows

@@ -7,6 +7,7 @@
 mod against;
 mod built;
 mod bytes;
+mod contents;
 mod draft;
 mod escaped;
 mod extent;
