@@ -144,7 +144,7 @@ value-given raw value old new false is none =
     absurd (let d : ◌≡◌ {A = Option (List ℕ)} (Some value) None = sym (unescaped-escaped value) ∙ ap unescaped (sym is) ∙ none in cc)
 
 -- the value of which the piece is known
-piece-value : (node : Plain) (value : List ℕ) → piece_of node ≡ Some value → value ≡ value_of node
+pub piece-value : (node : Plain) (value : List ℕ) → piece_of node ≡ Some value → value ≡ value_of node
 piece-value (elem name kids) value e = only-joined (texts_listed kids) value e ∙ texts-joined kids
   where
     only-joined : (ts : List (List ℕ)) (v : List ℕ) → only_of [] ts ≡ Some v → v ≡ concat ts
