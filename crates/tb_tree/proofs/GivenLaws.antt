@@ -85,9 +85,9 @@ escape_short (b ∷ rest) e is =
 same_given : (a b : List ℕ) → ◌≡◌ {A = Option (List ℕ)} (Some a) (Some b) → a ≡ b
 same_given a b e = cc
 
-given_behind : (o : Option (List ℕ)) (front v : List ℕ) (most : ℕ) → ((w : List ℕ) → o ≡ Some w → length w ≤ most) → option_map (λ given. front ++ given) o ≡ Some v → length v ≤ length front + most
-given_behind None front v most fits is = absurd (none_some v is)
-given_behind (Some w) front v most fits is = omega (arith, ap length (same_given (front ++ w) v is), length-append front w, fits w refl)
+given_behind : (o : Option (List ℕ)) (before v : List ℕ) (most : ℕ) → ((w : List ℕ) → o ≡ Some w → length w ≤ most) → option_map (λ given. before ++ given) o ≡ Some v → length v ≤ length before + most
+given_behind None before v most fits is = absurd (none_some v is)
+given_behind (Some w) before v most fits is = omega (arith, ap length (same_given (before ++ w) v is), length-append before w, fits w refl)
 
 behind_escape : (o : Option Escape) (bs v : List ℕ) → ((e : Escape) → o ≡ Some e → Short e (length bs)) → ((e : Escape) (w : List ℕ) → unescaped_behind e.takes bs ≡ Some w → length w ≤ length bs - e.takes)
     → (o >>= λ e. option_map (λ given. e.gives ++ given) (unescaped_behind e.takes bs)) ≡ Some v → length v ≤ 1 + length bs

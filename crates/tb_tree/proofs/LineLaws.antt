@@ -49,8 +49,8 @@ lines_in-last b (c ∷ line) all =
     let next = and_parts (inside c) (list_all inside line) parts.1 in
     lines_in-inside b (c ∷ line) parts.0 (not-true (c == 10) next.0) ∙ ap (before_first b) (lines_in-last c line parts.1)
 
-inside-front : (bytes : List ℕ) (n : ℕ) → n ≤ length bytes → Nowhere (Passes (is_byte 10) bytes) 0 n → list_all inside (take n bytes) ≡ true
-inside-front bytes n within none = others-front 10 bytes n within none
+inside-prefix : (bytes : List ℕ) (n : ℕ) → n ≤ length bytes → Nowhere (Passes (is_byte 10) bytes) 0 n → list_all inside (take n bytes) ≡ true
+inside-prefix bytes n within none = others-front 10 bytes n within none
 
 lines_in-whole : (bytes : List ℕ) → 0 < length bytes → list_all inside bytes ≡ true → lines_in bytes ≡ bytes ∷ []
 lines_in-whole [] some all = absurd (omega arith)
@@ -66,7 +66,7 @@ pub cuts-whole : (bytes rest : List ℕ) → 0 < length bytes → Nowhere (Passe
 cuts-whole bytes rest some none is =
     let rest_is : rest ≡ drop (length bytes) bytes = is ∙ take_rest bytes (length bytes) in
     let nothing : rest ≡ [] = rest_is ∙ drop_all (length bytes) bytes (omega arith) in
-    let all : list_all inside bytes ≡ true = rw (take_all (length bytes) bytes (omega arith)) at (inside-front bytes (length bytes) (omega arith) none) in
+    let all : list_all inside bytes ≡ true = rw (take_all (length bytes) bytes (omega arith)) at (inside-prefix bytes (length bytes) (omega arith) none) in
     record {
       taken = length bytes;
       kept = length bytes;
@@ -86,21 +86,21 @@ kept-fits : (ends : Bool) (at : ℕ) → cond ends (at - 1) at ≤ at + 1
 kept-fits true at = omega arith
 kept-fits false at = omega arith
 
-kept-front : (ends : Bool) (at : ℕ) (bytes : List ℕ) → at ≤ length bytes → cond ends (take (length (take at bytes) - 1) (take at bytes)) (take at bytes) ≡ take (cond ends (at - 1) at) bytes
-kept-front true at bytes within = rw (length-take-le at bytes within) (take-take (at - 1) at bytes (omega arith))
-kept-front false at bytes within = refl
+kept-prefix : (ends : Bool) (at : ℕ) (bytes : List ℕ) → at ≤ length bytes → cond ends (take (length (take at bytes) - 1) (take at bytes)) (take at bytes) ≡ take (cond ends (at - 1) at) bytes
+kept-prefix true at bytes within = rw (length-take-le at bytes within) (take-take (at - 1) at bytes (omega arith))
+kept-prefix false at bytes within = refl
 
 -- The line before the first byte 10 ends there.
 pub cuts-at : (bytes line rest : List ℕ) (at : ℕ) → NoneBefore (Passes (is_byte 10) bytes) 0 (length bytes) at → Passes (is_byte 10) bytes at → line ≡ without_return (take at bytes)
     → rest ≡ take (length bytes - (at + 1)) (drop (at + 1) bytes) → CutsLine bytes line rest
 cuts-at bytes line rest at none here line_is is =
     let rest_is : rest ≡ drop (at + 1) bytes = is ∙ take_rest bytes (at + 1) in
-    let front = take at bytes in
-    let ends = get_or front (length front - 1) 0 == 13 in
+    let before = take at bytes in
+    let ends = get_or before (length before - 1) 0 == 13 in
     let ten : get_or bytes at 0 ≡ 10 = eqb-true (get_or bytes at 0) 10 here in
-    let whole : bytes ≡ front ++ 10 ∷ drop (at + 1) bytes =
-    sym (take-append-drop at bytes) ∙ ap (λ l. front ++ l) (drop_more bytes at 0 none.high ∙ ap (λ b. b ∷ drop (at + 1) bytes) ten) in
-    let all = inside-front bytes at (omega (arith, none.high)) none.before in
+    let whole : bytes ≡ before ++ 10 ∷ drop (at + 1) bytes =
+    sym (take-append-drop at bytes) ∙ ap (λ l. before ++ l) (drop_more bytes at 0 none.high ∙ ap (λ b. b ∷ drop (at + 1) bytes) ten) in
+    let all = inside-prefix bytes at (omega (arith, none.high)) none.before in
     record {
       taken = at + 1;
       kept = cond ends (at - 1) at;
@@ -108,7 +108,7 @@ cuts-at bytes line rest at none here line_is is =
       within = omega (arith, none.high);
       fits = kept-fits ends at;
       ended = inl (rw (step-back at) ten);
-      line_is = line_is ∙ kept-front ends at bytes (omega (arith, none.high));
+      line_is = line_is ∙ kept-prefix ends at bytes (omega (arith, none.high));
       rest_is = rest_is;
-      lines = ap lines_in whole ∙ lines_in-ended front (drop (at + 1) bytes) all ∙ ap (λ l. l ∷ lines_in (drop (at + 1) bytes)) (sym line_is) ∙ ap (λ r. line ∷ lines_in r) (sym rest_is);
+      lines = ap lines_in whole ∙ lines_in-ended before (drop (at + 1) bytes) all ∙ ap (λ l. l ∷ lines_in (drop (at + 1) bytes)) (sym line_is) ∙ ap (λ r. line ∷ lines_in r) (sym rest_is);
     }

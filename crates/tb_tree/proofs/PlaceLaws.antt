@@ -73,22 +73,22 @@ pub under-ancestor : (at : List ℕ) (k : ℕ) (place : List ℕ) → IsUnder at
 under-ancestor at k place u = (u.turn, u.rest, u.is)
 
 -- document order
-cmp-front : (front a b : List ℕ) → slice_cmp nat_cmp (front ++ a) (front ++ b) ≡ slice_cmp nat_cmp a b
-cmp-front [] a b = refl
-cmp-front (x ∷ front) a b = rw (le-ltb x x (omega arith), eq-eqb x x refl) (cmp-front front a b)
+cmp-prefix : (prefix a b : List ℕ) → slice_cmp nat_cmp (prefix ++ a) (prefix ++ b) ≡ slice_cmp nat_cmp a b
+cmp-prefix [] a b = refl
+cmp-prefix (x ∷ prefix) a b = rw (le-ltb x x (omega arith), eq-eqb x x refl) (cmp-prefix prefix a b)
 
 above_precedes : (at : List ℕ) (k : ℕ) (place : List ℕ) → IsUnder (at ++ k ∷ []) 0 place → Precedes (at ++ k ∷ []) place
 above_precedes at k place u =
     let long : place ≡ at ++ (k ∷ u.turn ∷ u.rest) = u.is ∙ append_assoc at (k ∷ []) (u.turn ∷ u.rest) in
-    rw (long, cmp-front at (k ∷ []) (k ∷ u.turn ∷ u.rest), le-ltb k k (omega arith), eq-eqb k k refl) refl
+    rw (long, cmp-prefix at (k ∷ []) (k ∷ u.turn ∷ u.rest), le-ltb k k (omega arith), eq-eqb k k refl) refl
 
 left_precedes : (at : List ℕ) (k : ℕ) (left right : List ℕ) → IsUnder (at ++ k ∷ []) 0 left → IsUnder at (k + 1) right → Precedes left right
 left_precedes at k left right u v =
     let long : left ≡ at ++ (k ∷ u.turn ∷ u.rest) = u.is ∙ append_assoc at (k ∷ []) (u.turn ∷ u.rest) in
-    rw (long, v.is, cmp-front at (k ∷ u.turn ∷ u.rest) (v.turn ∷ v.rest), lt-ltb k v.turn (omega (arith, v.from))) refl
+    rw (long, v.is, cmp-prefix at (k ∷ u.turn ∷ u.rest) (v.turn ∷ v.rest), lt-ltb k v.turn (omega (arith, v.from))) refl
 
 kid_precedes : (at : List ℕ) (k : ℕ) (right : List ℕ) → IsUnder at (k + 1) right → Precedes (at ++ k ∷ []) right
-kid_precedes at k right v = rw (v.is, cmp-front at (k ∷ []) (v.turn ∷ v.rest), lt-ltb k v.turn (omega (arith, v.from))) refl
+kid_precedes at k right v = rw (v.is, cmp-prefix at (k ∷ []) (v.turn ∷ v.rest), lt-ltb k v.turn (omega (arith, v.from))) refl
 
 sorted-append : (xs ys : List (List ℕ)) → IsStrictlySortedBy (slice_cmp nat_cmp) xs → IsStrictlySortedBy (slice_cmp nat_cmp) ys
     → AllByRecursion (λ x. AllByRecursion (Precedes x) ys) xs → IsStrictlySortedBy (slice_cmp nat_cmp) (xs ++ ys)

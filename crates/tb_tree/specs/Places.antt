@@ -7,11 +7,11 @@ use Rattle.tb_tree.specs.Plain.{Plain, elem, attr, text, Plains, no_kids, kid}
 
 -- A place is the list of kid numbers, from 0, that leads from the document node to a node. The
 -- document node has the empty place, and the root, its one kid, the place 0.
--- One node is an ancestor of another where its place is a proper front of the other's place.
+-- One node is an ancestor of another where its place is a proper prefix of the other's place.
 abbrev pub IsAncestor : List ℕ → List ℕ → Type 0
 IsAncestor u v = (k : ℕ) × (rest : List ℕ) × (v ≡ u ++ k ∷ rest)
 
--- Document order compares places number by number, a front first.
+-- Document order compares places number by number, a prefix first.
 abbrev pub Precedes : List ℕ → List ℕ → Type 0
 Precedes u v = slice_cmp nat_cmp u v ≡ Less
 

@@ -6,7 +6,7 @@ abbrev pub begins_with_end : List ℕ → Bool
 begins_with_end [] = false
 begins_with_end (b ∷ bs) = b == 10
 
--- the first line with one byte more at its front
+-- the first line with one byte more before it
 abbrev pub before_first : ℕ → List (List ℕ) → List (List ℕ)
 before_first b [] = (b ∷ []) ∷ []
 before_first b (line ∷ lines) = (b ∷ line) ∷ lines

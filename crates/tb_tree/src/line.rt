@@ -23,7 +23,7 @@ fn without_return(line: &[u8]) -> &[u8]
     ensures { result.now ≡ without_return line.now }
 {
     match line {
-        [front @ .., last] if *last == b'\r' => front,
+        [before @ .., last] if *last == b'\r' => before,
         _ => line,
     }
 }

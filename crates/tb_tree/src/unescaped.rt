@@ -116,7 +116,7 @@ fn begins_with_end(bytes: &[u8]) -> bool
     }
 }
 
-/// How many digits stand at the front.
+/// How many digits the bytes begin with.
 fn digits_len(bytes: &[u8]) -> usize
     ensures len { result ≡ prefix_len is_digit bytes.now }
     ensures within { result ≤ length bytes.now }
