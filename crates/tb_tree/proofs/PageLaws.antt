@@ -1,13 +1,17 @@
 -- What is written piece by piece makes the page.
-use Rattle.std.proofs.Common.{◌≡◌, ℕ, ◌-◌, ◌≤◌, Bool, true, false, ◌&&◌, not, List, [], ◌∷◌, ◌++◌, length, take, drop, refl, sym, ap, ap₂, ◌∙◌, arith, append_assoc, append-nil, length-append}
+use Rattle.std.proofs.Common.{◌≡◌, ℕ, ◌-◌, Bool, true, false, ◌&&◌, not, List, [], ◌∷◌, ◌++◌, length, take, refl, sym, ap, ap₂, ◌∙◌, arith, append_assoc, append-nil, length-append}
 use Rattle.std.proofs.lemmas.Bool.{and_parts, not-true, false≢true}
 use Rattle.std.proofs.lemmas.Grind.{flat_map-append}
-use Rattle.tb_tree.specs.Plain.{Plain, elem, attr, text, Plains, no_kids, kid, joined_kids}
-use Rattle.tb_tree.specs.Sound.{is_attribute, is_text, is_empty_list, has_no_attribute, attributes_first, begins_with_text, texts_apart, are_sound, is_sound}
+use Rattle.tb_tree.specs.Plain.{Plain, elem, attr, text, Plains, no_kids, kid, joined_kids, kids_of}
+use Rattle.tb_tree.specs.Sound.{is_attribute, is_text, is_empty_list, has_no_attribute, attributes_first, begins_with_text, texts_apart, are_sound, is_sound, IsSound}
 use Rattle.tb_tree.specs.Pieces.{content_of, ends_with_text}
 use Rattle.tb_tree.specs.Printed.{escaped, escaped_byte, printed_node, attribute_lines, start_line, end_line, content_lines, data_line}
-use Rattle.tb_tree.specs.Pages.{Page, page, line_end, text_start, whole_lines, ended, with_lines, with_text, with_node, with_nodes, joined, going_on}
+use Rattle.tb_tree.specs.Pages.{Page, page, text_start, whole_lines, ended, with_lines, with_text, with_node, with_nodes, joined, going_on}
+use Rattle.tb_tree.specs.Extents.{kind_of}
+use Rattle.tb_tree.specs.declared.extent.Kind.{Kind}
+use Rattle.tb_tree.specs.declared.extent.Kind.TheVariants as kind
 use Rattle.tb_tree.proofs.lists.Parts.{prefix_is}
+use Rattle.tb_tree.proofs.SoundLaws.{kids-sound}
 
 pub escaped-append : (v w : List ℕ) → escaped (v ++ w) ≡ escaped v ++ escaped w
 escaped-append v w = flat_map-append escaped_byte v w
@@ -137,6 +141,12 @@ nodes-copied p (text value) (kid next rest) h =
     ∙ ap (λ b. going_on (joined (with_text p value) b lines) (ends_with_text (kid next rest))) (not-true (is_text next) apart.0)
     ∙ ap (λ q. going_on q (ends_with_text (kid next rest))) (text-ended p value lines (not-true (is_empty_list value) sound.0))
 
+-- a text of a sound document
+pub text-copied : (p : Page) (node : Plain) → kind_of node ≡ kind.Text → IsSound node → going_on (joined p true (printed_node node)) true ≡ with_node p node
+text-copied p (elem name kids) is sound = absurd (let d : ◌≡◌ {A = Kind} kind.Element kind.Text = is in cc)
+text-copied p (attr name value) is sound = absurd (let d : ◌≡◌ {A = Kind} kind.Attribute kind.Text = is in cc)
+text-copied p (text value) is sound = sym (text-alone p value (not-true (is_empty_list value) sound))
+
 -- no lines, no nodes
 pub lines-some : (k : Plain) (rest : Plains) → is_attribute k ≡ false → content_lines (kid k rest) ≡ [] → ⊥
 lines-some (elem name kids) rest bare none =
@@ -158,3 +168,27 @@ pub some-copied : (p : Page) (ks : Plains) → AreWhole ks → (content_lines ks
     → with_nodes p ks ≡ going_on (joined p (begins_with_text ks) (content_lines ks)) (ends_with_text ks)
 some-copied p no_kids h some = absurd (some refl)
 some-copied p (kid k rest) h some = nodes-copied p k rest h
+
+-- what a sound node holds but for its attributes
+whole-content : (node : Plain) → IsSound node → AreWhole (content_of (kids_of node))
+whole-content node sound =
+    let k = kids-sound node sound in
+    content-whole (kids_of node) k.first k.apart k.sound
+
+pub content-none : (p : Page) (node : Plain) (lines : List ℕ) → IsSound node → lines ≡ content_lines (kids_of node) → length lines ≡ 0
+    → p ≡ with_nodes p (content_of (kids_of node))
+content-none p node lines sound is none =
+    sym (none-copied p (content_of (kids_of node)) (whole-content node sound) (content_lines-content (kids_of node) ∙ sym is ∙ empty lines none))
+  where
+    empty : (l : List ℕ) → length l ≡ 0 → l ≡ []
+    empty [] e = refl
+    empty (b ∷ l) e = absurd (omega (arith, e))
+
+pub content-some : (p : Page) (node : Plain) (lines : List ℕ) (begins ends : Bool) → IsSound node → lines ≡ content_lines (kids_of node) → (length lines ≡ 0 → ⊥)
+    → begins ≡ begins_with_text (content_of (kids_of node)) → ends ≡ ends_with_text (content_of (kids_of node))
+    → going_on (joined p begins lines) ends ≡ with_nodes p (content_of (kids_of node))
+content-some p node lines begins ends sound is some begin finish =
+    let ks = content_of (kids_of node) in
+    let same : lines ≡ content_lines ks = is ∙ sym (content_lines-content (kids_of node)) in
+    ap₂ (λ b l. going_on (joined p b l) ends) begin same ∙ ap (going_on (joined p (begins_with_text ks) (content_lines ks))) finish
+    ∙ sym (some-copied p ks (whole-content node sound) (λ none. some (ap length (same ∙ none))))

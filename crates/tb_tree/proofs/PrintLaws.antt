@@ -17,7 +17,7 @@ written_more out new whole here left rest is split before =
     ap (λ l. l ++ rest) is ∙ append_assoc out here rest ∙ ap (λ l. out ++ l) (sym split) ∙ before
 
 -- Plain bytes print as they are.
-plain-byte : (b : ℕ) → is_plain b ≡ true → escaped_byte b ≡ b ∷ []
+pub plain-byte : (b : ℕ) → is_plain b ≡ true → escaped_byte b ≡ b ∷ []
 plain-byte b plain =
     let outer = and_parts (nat_le 32 b && not (b == 127)) (not (b == 92)) plain in
     let inner = and_parts (nat_le 32 b) (not (b == 127)) outer.0 in

@@ -31,6 +31,7 @@ mod writer;
 pub use against::Against;
 pub use bytes::Bytes;
 pub use draft::Draft;
+pub use escaped::push_escaped;
 pub use extent::{Extent, Kind};
 pub use items::Items;
 pub use line::next_line;

@@ -1,13 +1,28 @@
 //! A page of lines that is written from front to back.
 
-ghost use Rattle.std.specs.Prelude.{◌≡◌, ◌++◌, ◌∷◌, [], true, false, IfOk, OnOk};
+ghost use Rattle.std.specs.Prelude.{◌≡◌, ◌≤◌, ◌++◌, ◌∷◌, [], true, false, IfOk, OnOk};
 ghost use Rattle.tb_tree.specs.View.{plain_of, plains_of};
 ghost use Rattle.tb_tree.specs.Printed.{start_line, end_line, attribute_line, attribute_lines};
-ghost use Rattle.tb_tree.specs.Pages.{page, text_start, whole_lines, ended, with_lines, with_text, with_node, with_nodes};
+ghost use Rattle.tb_tree.specs.Plain.{kids_of};
+ghost use Rattle.tb_tree.specs.Numbers.{count};
+ghost use Rattle.tb_tree.specs.Nodes.{node_at};
+ghost use Rattle.tb_tree.specs.Pieces.{content_of};
+ghost use Rattle.tb_tree.specs.Pages.{
+  page,
+  text_start,
+  whole_lines,
+  ended,
+  with_lines,
+  with_text,
+  with_node,
+  with_nodes,
+  joined,
+  going_on,
+};
 
-use crate::Node;
 use crate::escaped::push_escaped;
 use crate::printer::{push_attribute_told, push_attributes, push_named, push_node};
+use crate::{Kind, Node, Tree};
 use std::alloc::{AllocError, Global};
 use std::marker::Model;
 
@@ -144,6 +159,75 @@ impl Writer {
         'nodes: for node in nodes {
             self.node(node)?;
         }
+        Ok(())
+    }
+
+    /// The node of a document with that number, from 1 in document order, and all that is below it: its lines
+    /// are copied as they stand.
+    pub fn document_node(&mut self, tree: &Tree, number: u32) -> Result<(), AllocError>
+        requires some { 1 ≤ number }
+        requires within { number ≤ count (plain_of tree.now) }
+        ensures { OnOk result (self.new ≡ with_node self.old (node_at (plain_of tree.now) number)) }
+    {
+        let lines = tree.printed(number);
+        match tree.kind(number) {
+            Kind::Element => self.copy(lines, false, false)?,
+            Kind::Attribute => self.end()?,
+            Kind::Text => self.copy(lines, true, true)?,
+        }
+        Ok(())
+    }
+
+    /// The attributes of a document's element.
+    pub fn document_attributes(&mut self, tree: &Tree, number: u32) -> Result<(), AllocError>
+        requires some { 1 ≤ number }
+        requires within { number ≤ count (plain_of tree.now) }
+        ensures { OnOk result (self.new ≡ with_lines self.old (attribute_lines (kids_of (node_at (plain_of tree.now) number)))) }
+    {
+        self.end()?;
+        self.out.extend_from_slice(tree.attribute_lines(number))
+    }
+
+    /// The kids of a document's element but for its attributes, and all that is below them.
+    pub fn document_content(&mut self, tree: &Tree, number: u32) -> Result<(), AllocError>
+        requires some { 1 ≤ number }
+        requires within { number ≤ count (plain_of tree.now) }
+        ensures { OnOk result (self.new ≡ with_nodes self.old (content_of (kids_of (node_at (plain_of tree.now) number)))) }
+    {
+        let lines = tree.content_lines(number);
+        if lines.is_empty() {
+            return Ok(());
+        }
+        self.copy(
+            lines,
+            tree.begins_with_text(number),
+            tree.ends_with_text(number),
+        )?;
+        Ok(())
+    }
+
+    /// Lines as they print, of which the first or the last may be a text's.
+    fn copy(&mut self, lines: &[u8], begins: bool, ends: bool) -> Result<(), AllocError>
+        ensures { OnOk result (self.new ≡ going_on (joined self.old begins lines.now) ends) }
+    {
+        self.join(lines, begins)?;
+        if ends {
+            self.out.pop();
+            self.is_going = true;
+        }
+        Ok(())
+    }
+
+    fn join(&mut self, lines: &[u8], begins: bool) -> Result<(), AllocError>
+        ensures { OnOk result (self.new ≡ joined self.old begins lines.now) }
+    {
+        if !begins {
+            self.end()?;
+            return self.out.extend_from_slice(lines);
+        }
+        self.begin()?;
+        self.out.extend_from_slice(&lines[lines.len().min(1)..])?;
+        self.is_going = false;
         Ok(())
     }
 
