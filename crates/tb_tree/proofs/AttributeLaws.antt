@@ -1,5 +1,5 @@
 -- An attribute more waits in a draft.
-use Rattle.std.proofs.Common.{◌≡◌, ℕ, ◌+◌, Bool, true, cond, not, ◌&&◌, List, [], ◌∷◌, ◌++◌, length, map, refl, sym, ap, ap₂, ◌∙◌, arith, append_assoc, append-nil, length-append}
+use Rattle.std.proofs.Common.{◌≡◌, ℕ, ◌+◌, ◌≤◌, ◌==◌, ◌^◌, ◌-◌, min, max, get_or, Bool, true, cond, not, ◌&&◌, List, [], ◌∷◌, ◌++◌, length, map, refl, sym, ap, ap₂, ◌∙◌, arith, append_assoc, append-nil, length-append}
 use Rattle.std.proofs.lemmas.List.{map-append, length-map}
 use Rattle.std.proofs.lemmas.List.Folds.{list_all-append}
 use Rattle.tb_tree.specs.Plain.{Plain, attr, plains, one}
@@ -13,8 +13,9 @@ use Rattle.tb_tree.specs.Extents.{attribute_extent, extents, named}
 use Rattle.tb_tree.specs.declared.extent.Extent as code
 use Rattle.tb_tree.specs.declared.extent.Kind.TheVariants as kind
 use Rattle.tb_tree.specs.declared.draft.Draft.{Draft}
-use Rattle.tb_tree.specs.Drafts.{begun_text, begun_extents, going, kept_extent, waiting_extents, shown_text, shown_extents, is_none, place_if, Shows}
+use Rattle.tb_tree.specs.Drafts.{HasRoom, begun_text, begun_extents, going, kept_extent, waiting_extents, shown_text, shown_extents, is_none, place_if, Shows}
 use Rattle.tb_tree.proofs.NameLaws.{more-length}
+use Rattle.tb_tree.proofs.NotedLaws.{notes-attribute}
 use Rattle.tb_tree.proofs.JoinedLaws.{plains-append, attribute_lines-joined, extents-joined, length-extents}
 use Rattle.tb_tree.proofs.KeptLaws.{same_extent, more-attributes, number-stays, kept-extents, kept-place, stack-length}
 
@@ -58,6 +59,40 @@ attribute-extents m name value last from from_is last_is =
     ∙ ap (extents (length text) 0 (n + 1) (level + 1)) (sym (plains-append ws (attr name value ∷ []))))
     ∙ ap (λ r. begun ++ r) (sym (some-wait (length text) n level ws (attr name value)))
 
+-- the place that is kept stands among the extents
+pub kept-below : (d : Draft) (m : Made) (at level place : ℕ) → Shows d m → at ≡ length d.text.items → level ≡ length d.stack.items + 1
+    → place ≡ cond d.is_waiting d.kept (length d.extents.items) → place + 1 ≤ length d.extents.items + 1
+kept-below d m at level place s at_is level_is place_is =
+    let text = begun_text m.root (going m) in
+    let begun = begun_extents m.root (going m) in
+    let waits = waiting_extents (length text) (length begun + 1) (length m.frames + 1) m.waiting in
+    omega (
+      arith,
+      kept-place d m place s place_is,
+      length-map d.extents.items (named (d.elements ++ []) (d.attributes ++ [])),
+      ap length (s.extents_are [] []),
+      length-append begun waits,
+    )
+
+kept-within : (d d' : Draft) (m : Made) (at level : ℕ) (kept : List code.Extent) (x : code.Extent) → Shows d m → at ≡ length d.text.items → level ≡ length d.stack.items + 1
+    → kept ≡ d.extents.items ++ place_if d.is_waiting at level → d'.kept ≡ cond d.is_waiting d.kept (length d.extents.items) → d'.extents.items ≡ kept ++ x ∷ []
+    → d'.kept + 1 ≤ length d'.extents.items
+kept-within d d' m at level kept x s at_is level_is kept_is kept_at extents_is =
+    omega (
+      arith,
+      kept-below d m at level d'.kept s at_is level_is kept_at,
+      ap length kept_is,
+      length-append d.extents.items (place_if d.is_waiting at level),
+      ap length extents_is,
+      length-append kept (x ∷ []),
+    )
+
+-- the next number fits
+pub next-fits : (d : Draft) (m : Made) (at level place next more : ℕ) → Shows d m → at ≡ length d.text.items → level ≡ length d.stack.items + 1 → place ≡ cond d.is_waiting d.kept (length d.extents.items)
+    → next ≡ min (place + 1) (2 ^ 32 - 1) → HasRoom d more → 9 ≤ more → next ≡ place + 1
+next-fits d m at level place next more s at_is level_is place_is next_is room some =
+    omega (arith, next_is, kept-below d m at level place s at_is level_is place_is, room.few, room.room, some)
+
 pub shows-attribute : (d d' : Draft) (m : Made) (name value : List ℕ) (number at level : ℕ) (kept : List code.Extent) (to last : ℕ) (told : Bool) → Shows d m
     → at ≡ length d.text.items → level ≡ length d.stack.items + 1
     → kept ≡ d.extents.items ++ place_if d.is_waiting at level
@@ -67,8 +102,10 @@ pub shows-attribute : (d d' : Draft) (m : Made) (name value : List ℕ) (number 
     → to ≡ length d'.text.items → last ≡ length kept + 1 → told ≡ has_escape value
     → d'.extents.items ≡ kept ++ record { from = at; to = to; last = last; name = number; level = level + 1; kind = kind.Attribute; escaped = told } ∷ []
     → d'.stack.items ≡ d.stack.items → d'.is_going ≡ d.is_going → d'.is_waiting ≡ true → d'.has_begun ≡ d.has_begun
+    → ((n : ℕ) → get_or d'.waited.items n 0 ≡ cond (n == number) (d'.kept + 1) (get_or d.waited.items n 0))
+    → length d'.waited.items ≤ max (length d.waited.items) (number + 1)
     → Shows d' (with_attribute m name value)
-shows-attribute d d' m name value number at level kept to last told s at_is level_is kept_is kept_at number_is more same_elements text_is to_is last_is told_is extents_is stack_is going_is waits_is begun_is = record {
+shows-attribute d d' m name value number at level kept to last told s at_is level_is kept_is kept_at number_is more same_elements text_is to_is last_is told_is extents_is stack_is going_is waits_is begun_is written few = record {
   text_is = text_is ∙ ap (λ l. l ++ attribute_line name value) s.text_is ∙ attribute-text m name value;
   extents_are = λ es ns.
       let N = named (d'.elements ++ es) (d'.attributes ++ ns) in
@@ -99,6 +136,9 @@ shows-attribute d d' m name value number at level kept to last told s at_is leve
   waits_is = waits_is ∙ not-none m.waiting (attr name value);
   kept_is = λ waits. kept-place d m d'.kept s kept_at;
   begun_is = begun_is ∙ s.begun_is;
+  notes = notes-attribute d d' m name value number s.waits_is s.notes number_is more kept_at written few
+      (omega (arith, ap length kept_is, length-append d.extents.items (place_if d.is_waiting at level), ap length extents_is, length-append kept (record { from = at; to = to; last = last; name = number; level = level + 1; kind = kind.Attribute; escaped = told } ∷ [])))
+      (kept-within d d' m at level kept _ s at_is level_is kept_is kept_at extents_is);
   bare = list_all-append is_attribute m.waiting (attr name value ∷ []) ∙ ap (λ b. b && true) s.bare;
   single = s.single;
   few_elements = omega (arith, ap length same_elements, s.few_elements, ap length text_is, length-append d.text.items (attribute_line name value));

@@ -1,7 +1,7 @@
 -- The innermost element of a draft ends.
 use Rattle.std.proofs.Common.{◌≡◌, ℕ, ◌+◌, ◌-◌, ◌<◌, true, false, not, List, [], ◌∷◌, ◌++◌, length, map, set, take, get_or, Option, Some, refl, sym, ap, ap₂, ◌∙◌, subst, arith, append_assoc, append-nil, length-append, take-append-drop}
 use Rattle.std.proofs.lemmas.Bool.{false≢true}
-use Rattle.std.proofs.lemmas.List.{length-map, same_from_push, get_or-map, get_or_at, drop_more, drop_all}
+use Rattle.std.proofs.lemmas.List.{length-set, length-map, same_from_push, get_or-map, get_or_at, drop_more, drop_all}
 use Rattle.std.proofs.lemmas.Slice.Eq.{bytes_eq-Decides}
 use Rattle.tb_tree.specs.Plain.{Plain, elem, plains, one}
 use Rattle.tb_tree.specs.Numbers.{counts}
@@ -17,6 +17,7 @@ use Rattle.tb_tree.proofs.PutLaws.{put-none, put-text, put-extents, put-numbers}
 use Rattle.tb_tree.specs.NameTables.{IsNumber}
 use Rattle.tb_tree.proofs.TextLaws.{text-none, extents-none}
 use Rattle.tb_tree.proofs.NameLaws.{known-number}
+use Rattle.tb_tree.proofs.NotedLaws.{notes-kept}
 use Rattle.tb_tree.proofs.KeptLaws.{patched, same_extent}
 
 -- the element with its kids
@@ -74,9 +75,9 @@ shows-ended : (d d' : Draft) (m : Made) (name : List ℕ) (f : Frame) (fs : List
     → d'.text.items ≡ d.text.items ++ end_line name
     → to ≡ length d'.text.items → last ≡ length d.extents.items
     → d'.extents.items ≡ set d.extents.items place (ended_extent (get_or d.extents.items place e) to last)
-    → d'.elements ≡ d.elements → d'.attributes ≡ d.attributes → d'.is_going ≡ false → d'.is_waiting ≡ d.is_waiting → d'.has_begun ≡ d.has_begun
+    → d'.elements ≡ d.elements → d'.attributes ≡ d.attributes → d'.is_going ≡ false → d'.is_waiting ≡ d.is_waiting → d'.has_begun ≡ d.has_begun → d'.waited.items ≡ d.waited.items
     → Shows d' (record { frames = put (node_of_frame f ∷ []) fs; running = []; waiting = m.waiting; root = root_or fs (node_of_frame f) m.root })
-shows-ended d d' m name f fs place to last e none inner same_name single s stack_is text_is to_is last_is extents_is same_elements same_attributes going_is waits_is begun_is =
+shows-ended d d' m name f fs place to last e none inner same_name single s stack_is text_is to_is last_is extents_is same_elements same_attributes going_is waits_is begun_is waited_is =
     let node = node_of_frame f in
     let m' : Made = record { frames = put (node ∷ []) fs; running = []; waiting = m.waiting; root = root_or fs node m.root } in
     let lines = begun_text m.root (f ∷ fs) in
@@ -110,6 +111,7 @@ shows-ended d d' m name f fs place to last e none inner same_name single s stack
       waits_is = waits_is ∙ s.waits_is;
       kept_is = λ waits. absurd (false≢true (ap (λ ws. not (is_none ws)) (sym none) ∙ sym s.waits_is ∙ sym waits_is ∙ waits));
       begun_is = begun_is ∙ s.begun_is ∙ begun-put m.root (text_of m.running) m.frames ∙ ap (λ fr. has_begun fr m.root) inner ∙ begun-ended m.root node fs;
+      notes = notes-kept d d' m m' s.notes waited_is same_attributes (omega (arith, ap length extents_is, length-set d.extents.items place (ended_extent (get_or d.extents.items place e) to last))) (waits_is ∙ s.waits_is ∙ ap (λ ws. not (is_none ws)) none);
       bare = s.bare;
       single = single-ended m.root f node fs single;
       few_elements = omega (arith, ap length same_elements, s.few_elements, ap length text_is, length-append d.text.items (end_line name));
@@ -122,21 +124,21 @@ end_case : (d d' : Draft) (m : Made) (name : List ℕ) (frames : List Frame) (pl
     → d'.text.items ≡ d.text.items ++ end_line name
     → to ≡ length d'.text.items → last ≡ length d.extents.items
     → d'.extents.items ≡ set d.extents.items place (ended_extent (get_or d.extents.items place e) to last)
-    → d'.elements ≡ d.elements → d'.attributes ≡ d.attributes → d'.is_going ≡ false → d'.is_waiting ≡ d.is_waiting → d'.has_begun ≡ d.has_begun
+    → d'.elements ≡ d.elements → d'.attributes ≡ d.attributes → d'.is_going ≡ false → d'.is_waiting ≡ d.is_waiting → d'.has_begun ≡ d.has_begun → d'.waited.items ≡ d.waited.items
     → Shows d' (with_element_ended (with_text_ended m))
-end_case d d' m name [] place to last e are none found s stack_is text_is to_is last_is extents_is same_elements same_attributes going_is waits_is begun_is = absurd (false≢true found)
-end_case d d' m name (g ∷ gs) place to last e are none found s stack_is text_is to_is last_is extents_is same_elements same_attributes going_is waits_is begun_is =
+end_case d d' m name [] place to last e are none found s stack_is text_is to_is last_is extents_is same_elements same_attributes going_is waits_is begun_is waited_is = absurd (false≢true found)
+end_case d d' m name (g ∷ gs) place to last e are none found s stack_is text_is to_is last_is extents_is same_elements same_attributes going_is waits_is begun_is waited_is =
     let f : Frame = record { name = g.name; kids = g.kids ++ text_of m.running } in
     let inner : going m ≡ f ∷ gs = ap (put (text_of m.running)) are in
     subst (λ fr. Shows d' (with_frames_ended (with_text_ended m) fr)) (sym inner)
-    (shows-ended d d' m name f gs place to last e none inner ((bytes_eq-Decides g.name name).0 found) (subst (λ fr. IsSingle fr m.root) are s.single) s stack_is text_is to_is last_is extents_is same_elements same_attributes going_is waits_is begun_is)
+    (shows-ended d d' m name f gs place to last e none inner ((bytes_eq-Decides g.name name).0 found) (subst (λ fr. IsSingle fr m.root) are s.single) s stack_is text_is to_is last_is extents_is same_elements same_attributes going_is waits_is begun_is waited_is)
 
 pub shows-end : (d d' : Draft) (m : Made) (name : List ℕ) (place to last : ℕ) (e : code.Extent) → m.waiting ≡ [] → is_innermost name m.frames ≡ true → Shows d m
     → d.stack.items ≡ d'.stack.items ++ place ∷ []
     → d'.text.items ≡ d.text.items ++ end_line name
     → to ≡ length d'.text.items → last ≡ length d.extents.items
     → d'.extents.items ≡ set d.extents.items place (ended_extent (get_or d.extents.items place e) to last)
-    → d'.elements ≡ d.elements → d'.attributes ≡ d.attributes → d'.is_going ≡ false → d'.is_waiting ≡ d.is_waiting → d'.has_begun ≡ d.has_begun
+    → d'.elements ≡ d.elements → d'.attributes ≡ d.attributes → d'.is_going ≡ false → d'.is_waiting ≡ d.is_waiting → d'.has_begun ≡ d.has_begun → d'.waited.items ≡ d.waited.items
     → Shows d' (with_element_ended (with_text_ended m))
 shows-end d d' m name place to last e = end_case d d' m name m.frames place to last e refl
 

@@ -7,6 +7,7 @@ pub mod EscapeLaws
 pub mod PrintLaws
 pub mod PrintedBytes
 pub mod NameLaws
+pub mod NotedLaws
 pub mod JoinedLaws
 pub mod PutLaws
 pub mod KeptLaws

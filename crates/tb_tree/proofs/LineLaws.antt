@@ -1,8 +1,9 @@
 -- Lines that are cut at their first byte 10 are the lines of the text.
-use Rattle.std.proofs.Common.{◌≡◌, ℕ, suc, ◌+◌, ◌-◌, ◌<◌, ◌≤◌, Bool, true, false, cond, ◌==◌, List, [], ◌∷◌, ◌++◌, length, take, drop, get_or, refl, sym, ap, ◌∙◌, arith, inl, inr, eqb-true, take-append-drop}
+use Rattle.std.proofs.Common.{◌≡◌, ℕ, suc, ◌+◌, ◌-◌, ◌<◌, ◌≤◌, Bool, true, false, cond, ◌==◌, List, [], ◌∷◌, ◌++◌, length, take, drop, get_or, not, ◌&&◌, refl, sym, ap, ap₂, ◌∙◌, subst, arith, inl, inr, eqb-true, take-append-drop, length-append, length-drop}
 use Rattle.std.specs.List.{list_all}
 use Rattle.std.proofs.lemmas.Bool.{and_parts, and_right, not-true, false≢true}
-use Rattle.std.proofs.lemmas.List.{take_rest, take_all, take-take, drop_all, drop_more, length-take-le}
+use Rattle.std.proofs.lemmas.List.{take_rest, take_all, take_at, take-take, drop_all, drop_more, get_or_at, length-take-le}
+use Rattle.std.proofs.Math.Seq.{drop-append-add}
 use Rattle.memchr.specs.Find.{Nowhere, NoneBefore, Passes, is_byte}
 use Rattle.tb_tree.proofs.lists.Prefixes.{is_other, others-front}
 use Rattle.tb_tree.specs.TextLines.{lines_in, without_return, before_first, begins_with_end, CutsLine}
@@ -112,3 +113,41 @@ cuts-at bytes line rest at none here line_is is =
       rest_is = rest_is;
       lines = ap lines_in whole ∙ lines_in-ended before (drop (at + 1) bytes) all ∙ ap (λ l. l ∷ lines_in (drop (at + 1) bytes)) (sym line_is) ∙ ap (λ r. line ∷ lines_in r) (sym rest_is);
     }
+
+-- Bytes that begin with a line and byte 10.
+pub take-line : (bytes line rest : List ℕ) → bytes ≡ line ++ 10 ∷ rest → take (length line) bytes ≡ line
+take-line bytes line rest e = ap (take (length line)) e ∙ take_at line (10 ∷ rest) (length line) refl
+
+pub behind-is : (bytes line : List ℕ) (b : ℕ) → length line < length bytes → b ≡ 10 → b ≡ get_or bytes (length line) b → take (length line) bytes ≡ line
+    → bytes ≡ line ++ 10 ∷ take (length bytes - (length line + 1)) (drop (length line + 1) bytes)
+behind-is bytes line b within ten at same =
+    let behind = drop (length line + 1) bytes in
+    sym (take-append-drop (length line) bytes)
+    ∙ ap₂ (λ x y. x ++ y) same (drop_more bytes (length line) b within)
+    ∙ ap₂ (λ x y. line ++ x ∷ y) (sym at ∙ ten) (sym (take_all (length bytes - (length line + 1)) behind (omega (arith, length-drop (length line + 1) bytes))))
+
+-- The line is the first one, where no byte of it is 10 or 13.
+abbrev pub is_inner : ℕ → Bool
+is_inner b = not (b == 10) && not (b == 13)
+
+pub lines-behind : (line rest : List ℕ) → list_all is_inner line ≡ true → lines_in (line ++ 10 ∷ rest) ≡ line ∷ lines_in rest
+lines-behind [] rest all = refl
+lines-behind (b ∷ line) rest all =
+    let parts = and_parts (is_inner b) (list_all is_inner line) all in
+    let one = and_parts (not (b == 10)) (not (b == 13)) parts.0 in
+    rw (not-true (b == 10) one.0, not-true (b == 13) one.1, lines-behind line rest parts.1) refl
+
+pub cuts-behind : (bytes line rest : List ℕ) → list_all is_inner line ≡ true → bytes ≡ line ++ 10 ∷ rest → CutsLine bytes line rest
+cuts-behind bytes line rest all e =
+    subst (λ b. CutsLine b line rest) (sym e)
+    (record {
+      taken = length line + 1;
+      kept = length line;
+      some = omega arith;
+      within = omega (arith, length-append line (10 ∷ rest));
+      fits = omega arith;
+      ended = inl (ap (λ n. get_or (line ++ 10 ∷ rest) n 0) (omega arith) ∙ get_or_at line 10 rest 0 (length line) refl);
+      line_is = sym (take_at line (10 ∷ rest) (length line) refl);
+      rest_is = sym (drop-append-add line (10 ∷ rest) 1);
+      lines = lines-behind line rest all;
+    })

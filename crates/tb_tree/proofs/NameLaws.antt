@@ -8,7 +8,7 @@ use Rattle.std.proofs.lemmas.Bool.{cases_lt}
 use Rattle.std.proofs.lemmas.List.{get_or_append_left, get_or_push, take_at, get_or-append_right, get_or-replicate}
 use Rattle.std.proofs.lemmas.Map.Text.{is_eq-slice_cmp}
 use Rattle.std.proofs.lemmas.Slice.Eq.{bytes_eq-Decides}
-use Rattle.tb_tree.specs.NameTables.{IsTable, AreApart, IsMore, same, one_more, IsNumber, number_in}
+use Rattle.tb_tree.specs.NameTables.{IsTable, AreApart, IsKnown, IsMore, same, one_more, IsNumber, number_in}
 
 -- No name stands twice in a table.
 pub table-apart : (table : List (List ℕ)) (known : BTreeMap (List ℕ) ℕ) → IsTable table known → AreApart table
@@ -62,6 +62,20 @@ table-more table known more name t none writes = record {
         new_found : (n : ℕ) → length table ≡ n → number_in more (get_or (table ++ name ∷ []) n []) ≡ Some n
         new_found n is =
             ap (number_in more) (get_or_push table name [] n is) ∙ writes name ∙ ap (λ b. cond b (Some (length table)) (number_in known name)) (itself name) ∙ ap Some is
+
+-- the number of a name is its own
+pub known-alone : (table : List (List ℕ)) (known : BTreeMap (List ℕ) ℕ) (name : List ℕ) (n : ℕ) → IsTable table known → number_in known name ≡ Some n → IsKnown table name (Some n)
+known-alone table known name n t is = (
+  t.stands name n is,
+  λ k at. (let both : ◌≡◌ {A = Option ℕ} (Some k) (Some n) = sym (t.found k at.0) ∙ ap (number_in known) at.1 ∙ is in cc),
+)
+
+pub known-found : (table : List (List ℕ)) (known : BTreeMap (List ℕ) ℕ) (name : List ℕ) (n : ℕ) → IsTable table known → IsNumber table name n → IsKnown table name (Some n)
+known-found table known name n t at = known-alone table known name n t (ap (number_in known) (sym at.1) ∙ t.found n at.0)
+
+pub known-none : (table : List (List ℕ)) (known : BTreeMap (List ℕ) ℕ) (name : List ℕ) → IsTable table known → number_in known name ≡ None → IsKnown table name None
+known-none table known name t none n at =
+    (let d : ◌≡◌ {A = Option ℕ} None (Some n) = sym none ∙ ap (number_in known) (sym at.1) ∙ t.found n at.0 in cc)
 
 -- The same table, with the same entries.
 pub table-kept : (table : List (List ℕ)) (known : BTreeMap (List ℕ) ℕ) (other : List (List ℕ)) (more : BTreeMap (List ℕ) ℕ) → IsTable table known → other ≡ table → more.entries ≡ known.entries → IsTable other more

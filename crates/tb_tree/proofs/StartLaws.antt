@@ -12,7 +12,9 @@ use Rattle.tb_tree.specs.declared.extent.Extent as code
 use Rattle.tb_tree.specs.declared.extent.Kind.TheVariants as kind
 use Rattle.tb_tree.specs.declared.draft.Draft.{Draft}
 use Rattle.tb_tree.specs.Drafts.{begun_text, begun_extents, going, open_extents, shown_text, shown_extents, place_if, begun_extent, Shows}
+use Rattle.std.proofs.lemmas.List.{length-set}
 use Rattle.tb_tree.proofs.NameLaws.{more-length}
+use Rattle.tb_tree.proofs.NotedLaws.{notes-kept}
 use Rattle.tb_tree.proofs.PutLaws.{put-none, put-numbers, length-put}
 use Rattle.tb_tree.proofs.JoinedLaws.{content-bare, extents-bare}
 use Rattle.tb_tree.proofs.KeptLaws.{patched, more-elements, number-stays, kept-extents, kept-place}
@@ -50,9 +52,9 @@ pub shows-start : (d d' : Draft) (m : Made) (name : List ℕ) (number place at l
     → d'.extents.items ≡ set (d.extents.items ++ place_if d.is_waiting at level) place (begun_extent (get_or (d.extents.items ++ place_if d.is_waiting at level) place e) number)
     → d'.text.items ≡ d.text.items ++ start_line name
     → d'.stack.items ≡ d.stack.items ++ place ∷ []
-    → d'.is_going ≡ false → d'.is_waiting ≡ false → d'.has_begun ≡ true
+    → d'.is_going ≡ false → d'.is_waiting ≡ false → d'.has_begun ≡ true → d'.waited.items ≡ d.waited.items
     → Shows d' (with_element m name)
-shows-start d d' m name number place at level e no_root s at_is level_is place_is number_is more same_attributes extents_is text_is stack_is going_is waits_is begun_is =
+shows-start d d' m name number place at level e no_root s at_is level_is place_is number_is more same_attributes extents_is text_is stack_is going_is waits_is begun_is waited_is =
     let bare = content-bare m.waiting s.bare in
     let stands = kept-place d m place s place_is in
     record {
@@ -70,6 +72,9 @@ shows-start d d' m name number place at level e no_root s at_is level_is place_i
       waits_is = waits_is;
       kept_is = λ waits. absurd (false≢true (sym waits_is ∙ waits));
       begun_is = begun_is;
+      notes = notes-kept d d' m (with_element m name) s.notes waited_is same_attributes
+          (omega (arith, ap length extents_is, length-set (d.extents.items ++ place_if d.is_waiting at level) place (begun_extent (get_or (d.extents.items ++ place_if d.is_waiting at level) place e) number), length-append d.extents.items (place_if d.is_waiting at level)))
+          waits_is;
       bare = refl;
       single = no_root;
       few_elements = omega (arith, (more-length _ _ more).1, s.few_elements, ap length text_is, length-append d.text.items (start_line name));

@@ -2,7 +2,7 @@
 use Rattle.std.proofs.Common.{◌≡◌, ℕ, ◌+◌, ◌-◌, ◌≤◌, Bool, true, false, not, ◌&&◌, ◌||◌, List, [], ◌∷◌, ◌++◌, length, map, set, get_or, Option, refl, sym, ap, ap₂, ◌∙◌, arith, append_assoc, append-nil, length-append}
 use Rattle.std.specs.List.{list_all}
 use Rattle.std.proofs.lemmas.Bool.{false≢true}
-use Rattle.std.proofs.lemmas.List.{map-append, length-map}
+use Rattle.std.proofs.lemmas.List.{map-append, length-map, length-set}
 use Rattle.std.proofs.lemmas.List.Folds.{list_all-append}
 use Rattle.std.proofs.lemmas.Grind.{flat_map-append}
 use Rattle.tb_tree.specs.Plain.{Plain, text, plains}
@@ -16,6 +16,7 @@ use Rattle.tb_tree.specs.declared.extent.Kind.TheVariants as kind
 use Rattle.tb_tree.specs.declared.draft.Draft.{Draft}
 use Rattle.tb_tree.specs.Drafts.{begun_text, begun_extents, going, waiting_extents, shown_text, shown_extents, is_none, longer_extent, IsInside, Shows}
 use Rattle.tb_tree.proofs.PutLaws.{put-none, put-text, put-extents}
+use Rattle.tb_tree.proofs.NotedLaws.{notes-kept}
 use Rattle.tb_tree.proofs.KeptLaws.{patched, same_extent, stack-length}
 
 -- the text of some bytes, put into the innermost element
@@ -77,9 +78,9 @@ pub shows-begun_text : (d d' : Draft) (m : Made) (value : List ℕ) (from to las
     → from ≡ length d.text.items → to ≡ length d'.text.items → last ≡ length d.extents.items + 1 → level ≡ length d.stack.items + 1 → told ≡ has_escape value
     → d'.text.items ≡ d.text.items ++ data_line value
     → d'.extents.items ≡ d.extents.items ++ record { from = from; to = to; last = last; name = 0; level = level; kind = kind.Text; escaped = told } ∷ []
-    → d'.stack.items ≡ d.stack.items → d'.elements ≡ d.elements → d'.attributes ≡ d.attributes → d'.is_going ≡ true → d'.is_waiting ≡ d.is_waiting → d'.kept ≡ d.kept → d'.has_begun ≡ d.has_begun
+    → d'.stack.items ≡ d.stack.items → d'.elements ≡ d.elements → d'.attributes ≡ d.attributes → d'.is_going ≡ true → d'.is_waiting ≡ d.is_waiting → d'.kept ≡ d.kept → d'.has_begun ≡ d.has_begun → d'.waited.items ≡ d.waited.items
     → Shows d' (with_more_text m value)
-shows-begun_text d d' m value from to last level told none inside not_going some s from_is to_is last_is level_is told_is text_is extents_is stack_is same_elements same_attributes going_is waits_is kept_is begun_is =
+shows-begun_text d d' m value from to last level told none inside not_going some s from_is to_is last_is level_is told_is text_is extents_is stack_is same_elements same_attributes going_is waits_is kept_is begun_is waited_is =
     let empty = none_runs m.running (sym not_going ∙ s.going_is) in
     let now = nothing-goes m empty in
     let m' = with_more_text m value in
@@ -108,6 +109,7 @@ shows-begun_text d d' m value from to last level told none inside not_going some
       waits_is = waits_is ∙ s.waits_is;
       kept_is = λ waits. absurd (false≢true (ap (λ ws. not (is_none ws)) (sym none) ∙ sym s.waits_is ∙ sym waits_is ∙ waits));
       begun_is = begun_is ∙ s.begun_is;
+      notes = notes-kept d d' m m' s.notes waited_is same_attributes (omega (arith, ap length extents_is, length-append d.extents.items (record { from = from; to = to; last = last; name = 0; level = level; kind = kind.Text; escaped = told } ∷ []))) (waits_is ∙ s.waits_is ∙ ap (λ ws. not (is_none ws)) none);
       bare = s.bare;
       single = s.single;
       few_elements = omega (arith, ap length same_elements, s.few_elements, ap length text_is, length-append d.text.items (data_line value));
@@ -127,9 +129,9 @@ pub shows-longer_text : (d d' : Draft) (m : Made) (value : List ℕ) (to place :
     → to ≡ length d'.text.items → place ≡ length d.extents.items - 1 → told ≡ has_escape value
     → ((front : List ℕ) → d.text.items ≡ front ++ 10 ∷ [] → d'.text.items ≡ (front ++ escaped value) ++ 10 ∷ [])
     → d'.extents.items ≡ set d.extents.items place (longer_extent (get_or d.extents.items place e) to told)
-    → d'.stack.items ≡ d.stack.items → d'.elements ≡ d.elements → d'.attributes ≡ d.attributes → d'.is_going ≡ true → d'.is_waiting ≡ d.is_waiting → d'.has_begun ≡ d.has_begun
+    → d'.stack.items ≡ d.stack.items → d'.elements ≡ d.elements → d'.attributes ≡ d.attributes → d'.is_going ≡ true → d'.is_waiting ≡ d.is_waiting → d'.has_begun ≡ d.has_begun → d'.waited.items ≡ d.waited.items
     → Shows d' (with_more_text m value)
-shows-longer_text d d' m value to place told e none inside goes some s to_is place_is told_is grows extents_is stack_is same_elements same_attributes going_is waits_is begun_is =
+shows-longer_text d d' m value to place told e none inside goes some s to_is place_is told_is grows extents_is stack_is same_elements same_attributes going_is waits_is begun_is waited_is =
     let r = m.running in
     let running = some_runs r (sym goes ∙ s.going_is) in
     let inside_r = inside-any m.frames value r inside some in
@@ -163,6 +165,7 @@ shows-longer_text d d' m value to place told e none inside goes some s to_is pla
       waits_is = waits_is ∙ s.waits_is;
       kept_is = λ waits. absurd (false≢true (ap (λ ws. not (is_none ws)) (sym none) ∙ sym s.waits_is ∙ sym waits_is ∙ waits));
       begun_is = begun_is ∙ s.begun_is;
+      notes = notes-kept d d' m m' s.notes waited_is same_attributes (omega (arith, ap length extents_is, length-set d.extents.items place (longer_extent (get_or d.extents.items place e) to told))) (waits_is ∙ s.waits_is ∙ ap (λ ws. not (is_none ws)) none);
       bare = s.bare;
       single = s.single;
       few_elements = omega (arith, ap length same_elements, s.few_elements, long);

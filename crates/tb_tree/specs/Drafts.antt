@@ -1,11 +1,13 @@
 -- What a draft of a document holds, for what has been made of it.
-use Rattle.std.specs.Prelude.{◌≡◌, IsTrue, ℕ, ◌+◌, ◌^◌, ◌<◌, ◌≤◌, Bool, true, false, ◌||◌, not, List, [], ◌∷◌, ◌++◌, map, length, Option, Some, None}
-use Rattle.std.specs.List.{list_all}
+use Rattle.std.specs.Prelude.{◌≡◌, ◌↔◌, slice_index_or, IsTrue, ℕ, ◌+◌, ◌^◌, ◌<◌, ◌≤◌, Bool, true, false, ◌||◌, not, List, [], ◌∷◌, ◌++◌, map, length, Option, Some, None}
+use Rattle.std.specs.List.{list_all, list_any}
+use Rattle.std.specs.Str.{bytes_eq}
 use Rattle.tb_tree.specs.Plain.{Plain, plains, one, is_element}
 use Rattle.tb_tree.specs.Sound.{is_attribute, is_empty_list, IsSound}
 use Rattle.tb_tree.specs.Levels.{levels}
 use Rattle.tb_tree.specs.Printed.{printed_node, attribute_lines, start_line, content_lines}
-use Rattle.tb_tree.specs.Making.{Frame, Made, put, text_of, has_begun}
+use Rattle.tb_tree.specs.Making.{Frame, Made, put, text_of, has_begun, names_of}
+use Rattle.tb_tree.specs.NameTables.{IsNumber}
 use Rattle.tb_tree.specs.Extents.{Extent, element_extent, extents, named}
 use Rattle.tb_tree.specs.declared.extent.Kind.TheVariants as kind
 use Rattle.tb_tree.specs.declared.extent.Extent as code
@@ -84,6 +86,21 @@ abbrev pub IsSingle : List Frame → Option Plain → Type 0
 IsSingle [] root = Unit {0}
 IsSingle (f ∷ fs) root = root ≡ None
 
+-- a name with that number waited last for the element with the number `here`
+abbrev pub WaitsIn : List (List ℕ) → List ℕ → ℕ → List ℕ → Type 0
+WaitsIn names waited here name =
+    (n : ℕ) × IsNumber names name n × (slice_index_or waited n 0 ≡ here)
+
+-- The draft notes for each name of attributes the number of the element that it last waited for. The next
+-- element has a higher number than all before it.
+pub record IsNoted (d : Draft) (m : Made) : Type 0 where
+  pub noted :
+      d.is_waiting ≡ true
+      → (name : List ℕ)
+      → (list_any (bytes_eq name) (names_of m.waiting) ≡ true) ↔ WaitsIn d.attributes d.waited.items (d.kept + 1) name
+  pub risen : (n : ℕ) → slice_index_or d.waited.items n 0 ≤ length d.extents.items
+  pub few_noted : length d.waited.items ≤ length d.attributes
+
 -- The draft holds what has been made. Its names may become more.
 pub record Shows (d : Draft) (m : Made) : Type 0 where
   pub text_is : d.text.items ≡ shown_text m
@@ -95,6 +112,7 @@ pub record Shows (d : Draft) (m : Made) : Type 0 where
   pub waits_is : d.is_waiting ≡ not (is_none m.waiting)
   pub kept_is : d.is_waiting ≡ true → d.kept ≡ length (begun_extents m.root (going m))
   pub begun_is : d.has_begun ≡ has_begun m.frames m.root
+  pub notes : IsNoted d m
   pub bare : list_all is_attribute m.waiting ≡ true
   pub single : IsSingle m.frames m.root
   pub few_elements : length d.elements ≤ length d.text.items

@@ -1,5 +1,5 @@
 -- A document that is being made: what of it is there, and what one step more makes of it.
-use Rattle.std.specs.Prelude.{ℕ, Bool, true, false, List, [], ◌∷◌, ◌++◌, map, Option, Some, None}
+use Rattle.std.specs.Prelude.{◌≡◌, ◌≢◌, ℕ, Bool, true, false, List, [], ◌∷◌, ◌++◌, map, Option, Some, None}
 use Rattle.std.specs.Str.{bytes_eq}
 use Rattle.tb_tree.specs.Plain.{Plain, elem, attr, text, plains}
 
@@ -108,3 +108,11 @@ is_innermost name (f ∷ fs) = bytes_eq f.name name
 abbrev pub innermost_name : List Frame → Option (List ℕ)
 innermost_name [] = None
 innermost_name (f ∷ fs) = Some f.name
+
+-- the innermost element's name, where its end tag stands first, and what follows; or none where another
+-- line does
+abbrev pub NextEnd : List Frame → List ℕ → Option (List ℕ × List ℕ) → Type 0
+NextEnd frames bytes (Some found) =
+    (innermost_name frames ≡ Some found.0) × (bytes ≡ 41 ∷ (found.0 ++ 10 ∷ found.1))
+NextEnd frames bytes None =
+    (name rest : List ℕ) → innermost_name frames ≡ Some name → bytes ≢ 41 ∷ (name ++ 10 ∷ rest)

@@ -1,5 +1,5 @@
 -- Names by number: each name that occurs has one, from 0.
-use Rattle.std.specs.Prelude.{◌≡◌, ℕ, ◌<◌, List, [], ◌∷◌, ◌++◌, length, slice_index_or, Option, Some}
+use Rattle.std.specs.Prelude.{◌≡◌, ℕ, ◌<◌, List, [], ◌∷◌, ◌++◌, length, slice_index_or, Option, Some, None}
 use Rattle.std.specs.BTreeMap.{BTreeMap, get}
 use Rattle.std.specs.Ordering.{nat_cmp}
 use Rattle.std.specs.Cmp.Lexicographic.{slice_cmp}
@@ -21,6 +21,11 @@ AreApart names =
 -- the name has this number
 abbrev pub IsNumber : List (List ℕ) → List ℕ → ℕ → Type 0
 IsNumber names name n = (n < length names) × (slice_index_or names n [] ≡ name)
+
+-- the number that the name has alone, or none where it has none
+abbrev pub IsKnown : List (List ℕ) → List ℕ → Option ℕ → Type 0
+IsKnown names name (Some n) = IsNumber names name n × ((k : ℕ) → IsNumber names name k → k ≡ n)
+IsKnown names name None = (n : ℕ) → IsNumber names name n → ⊥
 
 -- the names of before, and at most one more
 pub data IsMore (old new : List (List ℕ)) : Type 0 where

@@ -1,5 +1,5 @@
 -- The lines of a text: each ends with byte 10, before which one byte 13 is no part of the line.
-use Rattle.std.specs.Prelude.{◌≡◌, ◌⊎◌, ℕ, ◌-◌, ◌<◌, ◌≤◌, Bool, false, ◌&&◌, ◌==◌, if◌then◌else◌, List, [], ◌∷◌, Option, Some, None, length, take, drop, slice_index}
+use Rattle.std.specs.Prelude.{◌≡◌, ◌≢◌, ◌++◌, ◌⊎◌, ℕ, ◌-◌, ◌<◌, ◌≤◌, Bool, false, ◌&&◌, ◌==◌, if◌then◌else◌, List, [], ◌∷◌, Option, Some, None, length, take, drop, slice_index}
 
 -- the bytes begin with a line's end
 abbrev pub begins_with_end : List ℕ → Bool
@@ -34,6 +34,11 @@ pub record CutsLine (bytes line rest : List ℕ) : Type 0 where
 abbrev pub NextLine : List ℕ → Option (List ℕ × List ℕ) → Type 0
 NextLine bytes (Some found) = CutsLine bytes found.0 found.1
 NextLine bytes None = bytes ≡ []
+
+-- what follows the line and its byte 10, or none where the bytes begin otherwise
+abbrev pub BehindLine : List ℕ → List ℕ → Option (List ℕ) → Type 0
+BehindLine bytes line (Some rest) = bytes ≡ line ++ 10 ∷ rest
+BehindLine bytes line None = (rest : List ℕ) → bytes ≢ line ++ 10 ∷ rest
 
 -- what stands before byte 10, without one byte 13 at its end
 abbrev pub without_return : List ℕ → List ℕ

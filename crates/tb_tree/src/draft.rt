@@ -1,16 +1,19 @@
 //! A document that is being made: its lines are appended, and each node's extent is noted.
 
-ghost use Rattle.std.specs.Prelude.{◌≡◌, ◌<◌, ◌≤◌, ◌+◌, true, false, not, [], None, length, IsTrue, OnOk, IfOk, IfSome};
+ghost use Rattle.std.specs.Prelude.{◌≡◌, ◌==◌, ◌∷◌, ◌++◌, ◌<◌, ◌≤◌, ◌+◌, true, false, not, [], None, length, IsTrue, OnOk, IfOk, IfSome};
 ghost use Rattle.std.specs.Option.{option_map};
-ghost use Rattle.tb_tree.specs.Making.{Made, nothing_made, is_innermost, innermost_name, has_begun, with_attribute, with_element, with_more_text, with_text_ended, with_element_ended};
+ghost use Rattle.std.specs.List.{list_any};
+ghost use Rattle.std.specs.Str.{bytes_eq};
+ghost use Rattle.tb_tree.specs.Making.{Made, nothing_made, names_of, NextEnd, is_innermost, innermost_name, has_begun, with_attribute, with_element, with_more_text, with_text_ended, with_element_ended};
 ghost use Rattle.tb_tree.specs.Sound.{is_empty_list};
 ghost use Rattle.tb_tree.specs.Drafts.{is_none, Shows, HasRoom, IsInside, IsDone, size_of, depth_of};
 ghost use Rattle.tb_tree.specs.Printed.{attribute_line, start_line, end_line, escaped};
 ghost use Rattle.tb_tree.specs.Plain.{Plain};
 ghost use Rattle.tb_tree.specs.View.{plain_of};
 
+use crate::line::behind_line;
 use crate::names::Names;
-use crate::noting::{begin_at, end_at, keep_place, lengthen_at};
+use crate::noting::{begin_at, end_at, keep_place, lengthen_at, note_waiting, waited_of};
 use crate::printer::{lengthen_data, push_attribute_told, push_data_told, push_named};
 use crate::{Extent, Kind, Tree};
 use std::alloc::{AllocError, Global};
@@ -32,6 +35,9 @@ pub struct Draft {
     is_waiting: bool,
     kept: u32,
     has_begun: bool,
+    /// For each name of attributes, by its number, the number of the element that it last waited for; 0 where
+    /// it waited for none.
+    waited: Vec<u32>,
 }
 
 impl Draft {
@@ -49,6 +55,7 @@ impl Draft {
             is_waiting: false,
             kept: 0,
             has_begun: false,
+            waited: Vec::new(alloc),
         })
     }
 
@@ -57,6 +64,20 @@ impl Draft {
         ensures { (m : Made) → Shows self.now m → result ≡ not (is_none m.waiting) }
     {
         self.is_waiting
+    }
+
+    /// Whether an attribute of the name waits.
+    pub fn is_waiting_for(&self, name: &[u8]) -> Result<bool, AllocError>
+        ensures { (m : Made) → Shows self.now m
+            → IfOk result (λ waits. waits ≡ list_any (bytes_eq name.now) (names_of m.waiting)) }
+    {
+        if !self.is_waiting {
+            return Ok(false);
+        }
+        let Some(number) = self.attributes.known(self.alloc, name)? else {
+            return Ok(false);
+        };
+        Ok(is_next(self.kept, waited_of(number, self.waited.as_slice())))
     }
 
     /// How many elements are open.
@@ -85,6 +106,7 @@ impl Draft {
         let level = self.stack.len() as u16 + 1;
         self.kept = keep_place(self.is_waiting, self.kept, at, level, &mut self.extents)?;
         self.is_waiting = true;
+        note_waiting(number, self.kept.saturating_add(1), &mut self.waited)?;
         let escaped = push_attribute_told(name, value, &mut self.text)?;
         let extent = Extent {
             from: at,
@@ -192,6 +214,24 @@ impl Draft {
         self.elements.find(extent.name)
     }
 
+    /// The name of the innermost element and the bytes behind its end tag, or none where the bytes begin otherwise.
+    pub fn next_end<'b>(&self, bytes: &'b [u8]) -> Option<(&'b [u8], &'b [u8])>
+        ensures end { (m : Made) → Shows self.now m
+            → NextEnd m.frames bytes.now (option_map (λ found. (found.0.now, found.1.now)) result) }
+        ensures line { IfSome result (λ found. bytes.now ≡ 41 ∷ (found.0.now ++ 10 ∷ found.1.now)) }
+        ensures open { IfSome result (λ found. 0 < depth_of self.now) }
+    {
+        let [lead, rest @ ..] = bytes else {
+            return None;
+        };
+        if *lead != b')' {
+            return None;
+        }
+        let name = self.innermost()?;
+        let behind = behind_line(rest, name)?;
+        Some((&rest[..name.len()], behind))
+    }
+
     /// The innermost element ends, which has the name.
     pub fn end(&mut self, name: &[u8]) -> Result<(), AllocError>
         requires open { 0 < depth_of self.old }
@@ -231,4 +271,11 @@ impl Draft {
             attributes.into_table(),
         )
     }
+}
+
+/// The number is the one behind the place's.
+fn is_next(place: u32, number: u32) -> bool
+    ensures { result ≡ (number == place + 1) }
+{
+    u64::from(number) == u64::from(place) + 1
 }

@@ -2,7 +2,7 @@
 
 ghost use Rattle.std.specs.Prelude.{◌≡◌};
 ghost use Rattle.std.specs.Option.{option_map};
-ghost use Rattle.tb_tree.specs.TextLines.{NextLine, without_return};
+ghost use Rattle.tb_tree.specs.TextLines.{NextLine, BehindLine, without_return};
 
 use memchr::memchr;
 
@@ -17,6 +17,19 @@ pub fn next_line(bytes: &[u8]) -> Option<(&[u8], &[u8])>
         return Some((bytes, &bytes[bytes.len()..]));
     };
     Some((without_return(&bytes[..at]), &bytes[at + 1..]))
+}
+
+/// The bytes behind the line and its end, or none where the bytes begin otherwise.
+pub fn behind_line<'b>(bytes: &'b [u8], line: &[u8]) -> Option<&'b [u8]>
+    ensures { BehindLine bytes.now line.now (option_map (λ rest. rest.now) result) }
+{
+    if *bytes.get(line.len())? != b'\n' {
+        return None;
+    }
+    if &bytes[..line.len()] != line {
+        return None;
+    }
+    Some(&bytes[line.len() + 1..])
 }
 
 fn without_return(line: &[u8]) -> &[u8]

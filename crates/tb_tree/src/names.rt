@@ -2,7 +2,7 @@
 
 ghost use Rattle.std.specs.Prelude.{◌≡◌, ◌^◌, ◌<◌, ℕ, List, [], Some, length, IfOk, IfSome, OnOk};
 ghost use Rattle.std.specs.Option.{option_map};
-ghost use Rattle.tb_tree.specs.NameTables.{AreApart, IsNumber, IsMore};
+ghost use Rattle.tb_tree.specs.NameTables.{AreApart, IsKnown, IsNumber, IsMore};
 
 use crate::Bytes;
 use std::alloc::{AllocError, Global};
@@ -58,9 +58,23 @@ impl Names {
         Ok(number)
     }
 
+    /// The number of the name, or none where it has none.
+    pub fn known(&self, alloc: Global, name: &[u8]) -> Result<Option<u32>, AllocError>
+        ensures { IfOk result (IsKnown self.now name.now) }
+    {
+        if let Some(number) = self.recent_of(fingerprint(name), name) {
+            return Ok(Some(number));
+        }
+        let name = Bytes::from_vec(name.to_vec(alloc)?);
+        match self.known.get(&name) {
+            Some(number) => Ok(Some(*number)),
+            None => Ok(None),
+        }
+    }
+
     /// The name's number, where it is the one last found for the fingerprint.
     fn recent_of(&self, slot: usize, name: &[u8]) -> Option<u32>
-        ensures { IfSome result (IsNumber self.now name.now) }
+        ensures { IfSome result (λ number. IsKnown self.now name.now (Some number)) }
     {
         let number = *self.recent.get(slot)?;
         let known = self.table.get(number as usize)?;

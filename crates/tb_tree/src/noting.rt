@@ -1,6 +1,6 @@
 //! Extents as they become known.
 
-ghost use Rattle.std.specs.Prelude.{◌≡◌, ◌<◌, ◌^◌, ◌++◌, ◌||◌, set, length, vec_len, slice_index_or, if◌then◌else◌, IfOk, OnOk};
+ghost use Rattle.std.specs.Prelude.{◌≡◌, ◌<◌, ◌≤◌, ◌^◌, ◌+◌, ◌==◌, ℕ, max, ◌++◌, ◌||◌, set, length, vec_len, slice_index_or, if◌then◌else◌, IfOk, OnOk};
 ghost use Rattle.tb_tree.specs.declared.extent.Extent as code;
 ghost use Rattle.tb_tree.specs.Drafts.{begun_extent, ended_extent, longer_extent, place_if};
 
@@ -67,6 +67,37 @@ pub fn lengthen_at(place: usize, to: u32, escaped: bool, extents: &mut Vec<Exten
         let before = extent.escaped;
         extent.to = to;
         extent.escaped = is_either(before, escaped);
+    }
+}
+
+/// The name of that number waits for that element.
+pub fn note_waiting(number: u32, element: u32, waited: &mut Vec<u32>) -> Result<(), AllocError>
+    ensures noted { OnOk result ((n : ℕ) → slice_index_or waited.new.items n 0
+        ≡ (if n == number then element else slice_index_or waited.old.items n 0)) }
+    ensures few { OnOk result (length waited.new.items ≤ max (length waited.old.items) (number + 1)) }
+{
+    let place = number as usize;
+    if waited.len() <= place {
+        waited.resize(place + 1, 0)?;
+    }
+    set_at(place, element, waited);
+    Ok(())
+}
+
+fn set_at(place: usize, element: u32, waited: &mut Vec<u32>)
+    requires within { place < vec_len waited.old }
+    ensures { waited.new.items ≡ set waited.old.items place element }
+{
+    waited[place] = element;
+}
+
+/// The element that the name of that number last waited for, or 0.
+pub fn waited_of(number: u32, waited: &[u32]) -> u32
+    ensures { result ≡ slice_index_or waited.now number 0 }
+{
+    match waited.get(number as usize) {
+        Some(element) => *element,
+        None => 0,
     }
 }
 

@@ -12,7 +12,7 @@ pub returns-clause-shown : goal.returns-clause-shown
 returns-clause-shown c = λ m none inside goes s.
     shows-longer_text c.args.self.now _ m c.args.value.now c.len-2.result c.saturating_sub-last.result c.in_ok-escaped.escaped no_extent none inside goes c.requires.some s
     (omega (arith, c.len-2.ensures, c.lengthen_data.new.out.ok.0)) (omega (arith, c.saturating_sub-last.ensures, c.len.ensures, c.args.self.now.extents.ok.0)) c.in_ok-escaped.ensures.told
-    c.in_ok-escaped.ensures.line (c.lengthen_at.ensures no_extent) refl refl refl goes refl refl
+    c.in_ok-escaped.ensures.line (c.lengthen_at.ensures no_extent) refl refl refl goes refl refl refl
 
 pub returns-clause-grown : goal.returns-clause-grown
 returns-clause-grown c = omega (arith, c.in_ok-escaped.ensures.grown)
