@@ -4,13 +4,14 @@ use Rattle.std.proofs.Common.{◌≡◌, ℕ, IsTrue, List, [], ◌∷◌, ◌++
 use Rattle.std.proofs.lemmas.Bool.{false≢true}
 use Rattle.tb_tree.specs.Plain.{Plain, elem, attr, text, Plains, no_kids, kid, one, plains, is_element}
 use Rattle.tb_tree.specs.Escapes.{unescaped}
+use Rattle.tb_tree.proofs.PlantLaws.{plains-listed}
 use Rattle.tb_esis.specs.Lines.{Line, opens, closes, characters, conforms, is_kept, document_lines}
 use Rattle.tb_esis.specs.Reading.{with_text, Kids, over, goes_on, child, Ends, ended, conforming, no_bytes, Spell, IsReadAs}
 use Rattle.tb_esis.specs.Faults.{at_start, fault_of}
 use Rattle.tb_tree.specs.Making.{Frame, Made, nothing_made, text_of}
 use Rattle.tb_esis.specs.Machine.{made_behind, made_of}
 use Rattle.tb_esis.proofs.KeptLaws.{clean-kept, made-kept, clean-none}
-use Rattle.tb_esis.proofs.SpelledRuns.{Runs, runs-trans, runs-refl, runs-line, with_waiting, attributes_run, within, with_kids, kids_run, plains-listed, same_name}
+use Rattle.tb_esis.proofs.SpelledRuns.{Runs, runs-trans, runs-refl, runs-line, with_waiting, attributes_run, within, with_kids, kids_run, same_name}
 
 -- the document, whose root has ended or has not begun
 abbrev pub outside : Option Plain → Made

@@ -6,9 +6,8 @@ pub mod MeaningLaws
 pub mod SoundLaws
 pub mod ReadLaws
 pub mod SpaceLaws
-pub mod NotedLaws
+pub mod NamedLaws
 pub mod WeightLaws
-pub mod ValueLaws
 pub mod ReadingLaws
 pub mod PrintedLines
 pub mod PrintedLaws

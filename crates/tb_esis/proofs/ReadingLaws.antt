@@ -14,6 +14,7 @@ use Rattle.tb_tree.specs.Making.{Frame, Made, nothing_made, put, text_of, with_t
 use Rattle.tb_tree.specs.Drafts.{IsDone}
 use Rattle.tb_esis.specs.Machine.{made_behind, made_of, open_of}
 use Rattle.tb_esis.specs.Calls.{UnlessMemory, Reads}
+use Rattle.tb_esis.specs.Readers.{HasFault}
 use Rattle.tb_esis.specs.declared.fault.EsisFault.{EsisFault}
 use Rattle.tb_esis.specs.declared.fault.EsisFault.TheVariants.{BadEscape, BadName, BadAttribute, NoElement, WrongEnd, NotEnded, SecondRoot, TextOutside, TooDeep, NoMemory}
 use Rattle.tb_esis.proofs.OpenLaws.{open-behind}
@@ -73,6 +74,10 @@ pub fault-cut : (bytes line rest : List ℕ) (number : ℕ) (before : Made) (who
     → first_fault number (open_of before) (document_lines bytes) ≡ whole → fault_or (fault_at (open_of before) (line_of line)) number None ≡ Some fault → whole ≡ Some fault
 fault-cut bytes line rest number before whole fault cut e here =
     sym e ∙ ap (first_fault number (open_of before)) (lines-cut bytes line rest cut) ∙ fault-first (fault_at (open_of before) (line_of line)) number _ fault here
+
+pub fault-taken : (lines : List ℕ) (number : ℕ) (before : Made) (whole : Option EsisFault) (fault : EsisFault)
+    → first_fault number (open_of before) (document_lines lines) ≡ whole → HasFault lines number before fault → whole ≡ Some fault
+fault-taken lines number before whole fault e h = fault-cut lines h.line h.behind number before whole fault h.cut e h.told
 
 pub left-by : (bytes : List ℕ) (fault : EsisFault) (r : Result Node EsisFault) → IsErrAnd r (λ f. f ≡ fault) → UnlessMemory fault (fault_of bytes ≡ Some fault) → Reads bytes r
 left-by bytes fault (Ok tree) e reads = absurd e

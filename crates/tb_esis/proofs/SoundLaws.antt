@@ -5,6 +5,7 @@ use Rattle.std.proofs.lemmas.List.{length-map}
 use Rattle.std.proofs.lemmas.Slice.Eq.{bytes_eq-Decides}
 use Rattle.tb_tree.specs.Plain.{Plain, elem, Plains, no_kids, kid, one, plains, kids_listed, is_element}
 use Rattle.tb_tree.specs.Names.{is_name}
+use Rattle.tb_tree.proofs.PlantLaws.{plains-listed}
 use Rattle.tb_esis.specs.Lines.{Line, opens, closes, attribute, characters, conforms, passed_over, is_implied, is_kept, document_lines}
 use Rattle.tb_esis.specs.Reading.{with_text, no_more, Kids, over, ended, conforming, IsReadAs}
 use Rattle.tb_esis.specs.Faults.{Open, at_start, fault_of, fault_at, after_line, is_none_of, is_innermost}
@@ -12,7 +13,6 @@ use Rattle.tb_tree.specs.Making.{Frame, Made, nothing_made, names_of, text_of, p
 use Rattle.tb_esis.specs.Machine.{made_behind, open_of}
 use Rattle.tb_esis.proofs.KeptLaws.{is_no_fault, is_clean, no_fault-none, none-clean, passes}
 use Rattle.tb_esis.proofs.OpenLaws.{open-behind}
-use Rattle.tb_esis.proofs.SpelledRuns.{plains-listed}
 use Rattle.tb_esis.proofs.MeaningLaws.{before_kids, KidsMean, child-mean, OutsideMeans, Means, MadeMeans, Leads, not-true, some_none, kept_none, no_names, characters_lead, attribute_leads}
 
 -- a start

@@ -7,6 +7,7 @@ use Rattle.std.proofs.lemmas.Slice.Eq.{bytes_eq-Decides}
 use Rattle.std.specs.Str.{bytes_eq}
 use Rattle.tb_tree.specs.Plain.{Plain, elem, attr, Plains, no_kids, kid, plains, kids_listed}
 use Rattle.tb_tree.specs.Escapes.{unescaped}
+use Rattle.tb_tree.proofs.PlantLaws.{plains-listed}
 use Rattle.tb_esis.specs.Lines.{Line, opens, closes, attribute, characters}
 use Rattle.tb_esis.specs.Reading.{with_text, Attributes, no_more, next, Kids, over, goes_on, child}
 use Rattle.tb_esis.specs.Faults.{fault_at}
@@ -91,10 +92,6 @@ pub record KidsMade (f : Frame) (fs : List Frame) (root : Option Plain) (given :
 listed-with_text : (given : List ℕ) (kids : Plains) → kids_listed (with_text given kids) ≡ text_of given ++ kids_listed kids
 listed-with_text [] kids = refl
 listed-with_text (b ∷ bs) kids = refl
-
-pub plains-listed : (kids : Plains) → plains (kids_listed kids) ≡ kids
-plains-listed no_kids = refl
-plains-listed (kid k kids) = ap (kid k) (plains-listed kids)
 
 no_more_kids : (f : Frame) (fs : List Frame) (root : Option Plain) (given : List ℕ) (kids : Plains) (rest : List Line) → kids ≡ with_text given no_kids → KidsMade f fs root given kids rest rest
 no_more_kids f fs root given kids rest is = record {

@@ -1,5 +1,5 @@
 -- What a line prints is at most four times as long as the line.
-use Rattle.std.proofs.Common.{◌≡◌, ℕ, ◌+◌, ◌*◌, ◌≤◌, Bool, true, false, ◌==◌, cond, List, [], ◌∷◌, length, refl, sym, arith, ◌++◌, length-append}
+use Rattle.std.proofs.Common.{◌≡◌, ℕ, ◌+◌, ◌*◌, ◌≤◌, Bool, true, false, ◌==◌, List, [], ◌∷◌, length, refl, sym, arith, Result, Ok, Err, OnOk, length-append}
 use Rattle.std.proofs.lemmas.Bool.{false≢true}
 use Rattle.tb_tree.specs.Sound.{is_empty_list}
 use Rattle.tb_esis.specs.Lines.{before_space, behind_space, attribute_of, line_of}
@@ -53,3 +53,8 @@ weight_fits (b ∷ rest) = by_case (b == 40) (b == 41) (b == 65) (b == 45) (b ==
     by_case false false false true f p q r s t = rw (p, q, r, s) (omega arith)
     by_case false false false false true p q r s t = rw (p, q, r, s, t) (omega arith)
     by_case false false false false false p q r s t = rw (p, q, r, s, t) (omega arith)
+
+-- a bound that follows from another
+pub on_ok : {A E : Type 0} (P Q : Type 0) (r : Result A E) → (P → Q) → OnOk r P → OnOk r Q
+on_ok P Q (Ok x) f p = f p
+on_ok P Q (Err e) f p = tt

@@ -1,62 +1,87 @@
 //! Reading: one pass over the lines, which a draft of the document takes up.
 
-ghost use Rattle.std.specs.Prelude.{◌≡◌, ◌≤◌, ◌+◌, ◌*◌, false, length, IfOk, OnOk};
-ghost use Rattle.std.specs.List.{list_any};
+ghost use Rattle.std.specs.Prelude.{◌≡◌, ◌<◌, ◌≤◌, ◌+◌, ◌*◌, ◌∷◌, ◌++◌, true, length, IfOk, IfSome, OnOk};
 ghost use Rattle.std.specs.Option.{option_map};
-ghost use Rattle.std.specs.Str.{bytes_eq};
 ghost use Rattle.tb_tree.specs.Sound.{is_empty_list};
 ghost use Rattle.tb_tree.specs.Escapes.{unescaped};
-ghost use Rattle.tb_tree.specs.Making.{Made, nothing_made, names_of, with_attribute};
-ghost use Rattle.tb_tree.specs.Drafts.{HasRoom, size_of};
-ghost use Rattle.tb_tree.specs.Printed.{attribute_line, escaped};
+ghost use Rattle.tb_tree.specs.Making.{Made, nothing_made};
+ghost use Rattle.tb_tree.specs.Drafts.{HasRoom, size_of, depth_of};
+ghost use Rattle.tb_tree.specs.Printed.{escaped};
 ghost use Rattle.tb_esis.specs.Lines.{opens, closes, attribute, characters, conforms, line_of};
-ghost use Rattle.tb_esis.specs.Readers.{weight, IsReading, ReadsLine, TakesData};
+ghost use Rattle.tb_esis.specs.Readers.{weight, are_named, IsReading, MayClose, ReadsLine, TakesLine, TakesData};
 
 use crate::EsisFault;
 use crate::line::{Line, is_implied, is_name, line_of};
 use memchr::memchr;
 use std::alloc::{AllocError, Global};
-use std::collections::BTreeSet;
-use tb_tree::{Draft, push_unescaped};
+use tb_tree::{Draft, next_line, push_unescaped};
 
 /// Elements that may be open at once.
 const MOST_LEVELS: usize = 512;
 
 /// What has been made of the lines so far.
 #[derive(Drop)]
-pub struct Reader<'a> {
+pub struct Reader {
     pub draft: Draft,
-    /// The names of the attributes that wait. An element may have so many that a search of each takes too
-    /// long.
-    pub names: BTreeSet<&'a [u8]>,
 }
 
-impl<'a> Reader<'a> {
-    pub fn new(alloc: Global) -> Result<Reader<'a>, AllocError>
+impl Reader {
+    pub fn new(alloc: Global) -> Result<Reader, AllocError>
         ensures reading { IfOk result (λ reader. IsReading reader nothing_made) }
         ensures empty { IfOk result (λ reader. size_of reader.draft ≡ 0) }
     {
         Ok(Reader {
             draft: Draft::new(alloc)?,
-            names: BTreeSet::new(alloc),
         })
     }
 
     /// What has been made.
     pub fn into_draft(self) -> Draft
-        ensures { result ≡ self.entry.draft }
+        ensures { result ≡ self.draft }
     {
-        let Reader { draft, .. } = self;
+        let Reader { draft } = self;
         draft
     }
 
-    /// Reads the line with the number, from 1.
-    pub fn read(
+    /// Reads the first of the lines, which has the number, from 1. Gives the bytes behind it, or none where no
+    /// line is left.
+    pub fn take<'b>(
         &mut self,
-        line: &'a [u8],
+        lines: &'b [u8],
         number: u32,
         scratch: &mut Vec<u8>,
-    ) -> Result<(), EsisFault>
+    ) -> Result<Option<&'b [u8]>, EsisFault>
+        requires room { HasRoom self.old.draft (4 * length lines.now) }
+        ensures read { (m : Made) → IsReading self.old m → are_named m.frames ≡ true → TakesLine lines.now number m self.new result }
+        ensures grown { IfOk result (λ behind. IfSome behind (λ rest.
+            size_of self.new.draft + 4 * length rest.now ≤ size_of self.old.draft + 4 * length lines.now)) }
+    {
+        if let Some((name, behind)) = self.known_end(lines) {
+            self.draft.end(name)?;
+            return Ok(Some(behind));
+        }
+        let Some((line, behind)) = next_line(lines) else {
+            return Ok(None);
+        };
+        self.read(line, number, scratch)?;
+        Ok(Some(behind))
+    }
+
+    /// The innermost element's name and the bytes behind its end, where this comes next and may stand there. Its
+    /// name is known, so that no end of a line is searched.
+    fn known_end<'b>(&self, lines: &'b [u8]) -> Option<(&'b [u8], &'b [u8])>
+        ensures line { IfSome result (λ found. lines.now ≡ 41 ∷ (found.0.now ++ 10 ∷ found.1.now)) }
+        ensures open { IfSome result (λ found. 0 < depth_of self.now.draft) }
+        ensures end { (m : Made) → IsReading self.now m → IfSome result (λ found. MayClose m found.0.now) }
+    {
+        if self.draft.is_waiting() {
+            return None;
+        }
+        self.draft.next_end(lines)
+    }
+
+    /// Reads the line with the number, from 1.
+    fn read(&mut self, line: &[u8], number: u32, scratch: &mut Vec<u8>) -> Result<(), EsisFault>
         requires room { HasRoom self.old.draft (4 * length line.now) }
         ensures read { (m : Made) → IsReading self.old m → ReadsLine (line_of line.now) number m self.new result }
         ensures grown { OnOk result (size_of self.new.draft ≤ size_of self.old.draft + 4 * length line.now) }
@@ -86,7 +111,6 @@ impl<'a> Reader<'a> {
         if depth == MOST_LEVELS {
             return Err(EsisFault::TooDeep(number));
         }
-        self.names.clear();
         self.draft.start(name)?;
         Ok(())
     }
@@ -108,7 +132,7 @@ impl<'a> Reader<'a> {
 
     fn wait(
         &mut self,
-        name: &'a [u8],
+        name: &[u8],
         kind: &[u8],
         raw: &[u8],
         number: u32,
@@ -127,23 +151,12 @@ impl<'a> Reader<'a> {
         if is_implied(kind) {
             return Ok(());
         }
-        if self.names.contains(name) {
+        if self.draft.is_waiting_for(name)? {
             return Err(EsisFault::BadAttribute(number));
         }
         let Some(value) = given(raw, scratch)? else {
             return Err(EsisFault::BadEscape(number));
         };
-        Ok(self.add(name, value)?)
-    }
-
-    /// The attribute waits.
-    fn add(&mut self, name: &'a [u8], value: &[u8]) -> Result<(), AllocError>
-        requires room { HasRoom self.old.draft (length (attribute_line name.now value.now)) }
-        ensures added { OnOk result ((m : Made) → IsReading self.old m → list_any (bytes_eq name.now) (names_of m.waiting) ≡ false
-            → IsReading self.new (with_attribute m name.now value.now)) }
-        ensures grown { OnOk result (size_of self.new.draft ≡ size_of self.old.draft + length (attribute_line name.now value.now)) }
-    {
-        self.names.insert(name)?;
         self.draft.attribute(name, value)?;
         Ok(())
     }

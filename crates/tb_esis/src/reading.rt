@@ -10,7 +10,7 @@ ghost use Rattle.tb_esis.specs.Calls.{Reads};
 use crate::EsisFault;
 use crate::reader::Reader;
 use std::alloc::Global;
-use tb_tree::{Tree, next_line};
+use tb_tree::Tree;
 
 /// The document that the lines are read as, or the first fault of the lines.
 pub fn read_tree(alloc: Global, lines: &[u8]) -> Result<Tree, EsisFault>
@@ -23,8 +23,7 @@ pub fn read_tree(alloc: Global, lines: &[u8]) -> Result<Tree, EsisFault>
     let mut scratch = Vec::new(alloc);
     let mut rest = lines;
     let mut number = 1;
-    'lines: while let Some((line, behind)) = next_line(rest) {
-        reader.read(line, number, &mut scratch)?;
+    'lines: while let Some(behind) = reader.take(rest, number, &mut scratch)? {
         rest = behind;
         number += 1;
     }

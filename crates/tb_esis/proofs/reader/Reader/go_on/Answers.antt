@@ -1,12 +1,12 @@
 -- What data gives is no longer than it is.
-use Rattle.std.proofs.Common.{◌≡◌, ◌+◌, ◌*◌, ◌≤◌, length, Some, sym, ap, ◌∙◌, arith}
+use Rattle.std.proofs.Common.{◌≡◌, ◌+◌, ◌*◌, length, Some, sym, ap, ◌∙◌, arith}
 use Rattle.std.specs.Option.{option_map}
 use Rattle.tb_tree.specs.Escapes.{unescaped}
 use Rattle.tb_tree.specs.Printed.{escaped}
 use Rattle.tb_tree.proofs.LengthLaws.{escaped-length}
 use Rattle.tb_tree.proofs.GivenLaws.{given-length}
 use Rattle.tb_tree.proofs.DoneLaws.{less-room}
-use Rattle.tb_esis.proofs.ValueLaws.{on_ok}
+use Rattle.tb_esis.proofs.WeightLaws.{on_ok}
 use Rattle.tb_esis.proofs.reader.Reader.go_on.Goals as goal
 
 pub take_data-requires : goal.take_data-requires

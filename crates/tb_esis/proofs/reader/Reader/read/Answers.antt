@@ -1,10 +1,9 @@
 -- What an attribute's line prints is at most four times as long as it.
-use Rattle.std.proofs.Common.{◌+◌, ◌*◌, ◌≤◌, length, ap, arith}
+use Rattle.std.proofs.Common.{◌*◌, length, ap, arith}
 use Rattle.tb_tree.proofs.DoneLaws.{less-room}
 use Rattle.tb_esis.specs.Lines.{attribute}
 use Rattle.tb_esis.specs.Readers.{weight}
-use Rattle.tb_esis.proofs.WeightLaws.{weight_fits}
-use Rattle.tb_esis.proofs.ValueLaws.{on_ok}
+use Rattle.tb_esis.proofs.WeightLaws.{weight_fits, on_ok}
 use Rattle.tb_esis.proofs.reader.Reader.read.Goals as goal
 
 pub wait-requires : goal.wait-requires
