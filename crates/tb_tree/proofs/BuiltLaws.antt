@@ -26,7 +26,7 @@ pub record IsFirst (bytes : List ℕ) (first : Extent) (behind : List Extent) (n
 pub same_cons : (x y : Extent) (xs ys : List Extent) → ◌≡◌ {A = List Extent} (x ∷ xs) (y ∷ ys) → (x ≡ y) × (xs ≡ ys)
 same_cons x y xs ys e = (cc, cc)
 
-none_first : (x : Extent) (xs : List Extent) → ◌≡◌ {A = List Extent} (x ∷ xs) [] → ⊥
+pub none_first : (x : Extent) (xs : List Extent) → ◌≡◌ {A = List Extent} (x ∷ xs) [] → ⊥
 none_first x xs e = cc
 
 first_elem : (bytes : List ℕ) (a c number level : ℕ) (name : List ℕ) (kids rest : Plains) → Stands bytes a (attribute_lines rest) → Stands bytes c (printed_node (elem name kids) ++ content_lines rest)

@@ -16,10 +16,7 @@ use Rattle.tb_tree.specs.Parts.{is_text_kind, is_attribute_kind, attributes_end,
 use Rattle.tb_tree.proofs.SoundLaws.{kids-sound}
 use Rattle.tb_tree.proofs.StandLaws.{stands-first, stands-behind}
 use Rattle.tb_tree.proofs.JoinedLaws.{length-extents}
-use Rattle.tb_tree.proofs.BuiltLaws.{same_cons}
-
-none-first : (x : Extent) (xs : List Extent) → ◌≡◌ {A = List Extent} [] (x ∷ xs) → ⊥
-none-first x xs e = cc
+use Rattle.tb_tree.proofs.BuiltLaws.{same_cons, none_first}
 
 more-first : (x y z : Extent) (xs : List Extent) → ◌≡◌ {A = List Extent} (x ∷ y ∷ xs) (z ∷ []) → ⊥
 more-first x y z xs e = cc
@@ -50,7 +47,7 @@ ends-lines a c n level (kid (text value) rest) first = omega (arith, ap length (
 -- How many bytes a node's attributes have.
 pub part-attributes : (bytes : List ℕ) (es : List code.Extent) (elements attributes : List (List ℕ)) (number level : ℕ) (node : Plain) (d : code.Extent) → AreNodes bytes (map (named elements attributes) es) number level (one node)
     → IsSound node → attributes_end (get_or es 0 d).from (drop 1 es) - (get_or es 0 d).from ≡ length (attribute_lines (kids_of node))
-part-attributes bytes [] elements attributes number level (elem name kids) d are sound = absurd (none-first _ _ are.extents_are)
+part-attributes bytes [] elements attributes number level (elem name kids) d are sound = absurd (none_first _ _ (sym are.extents_are))
 part-attributes bytes (e ∷ es) elements attributes number level (elem name kids) d are sound =
     let c = are.content_at in
     let inside = extents c (c + length (attribute_lines kids ++ start_line name)) (number + 1) (level + 1) kids in
@@ -60,10 +57,10 @@ part-attributes bytes (e ∷ es) elements attributes number level (elem name kid
     let end : attributes_end e.from es ≡ c + length (attribute_lines kids) =
     ends-named elements attributes e.from es ∙ ap₂ ends from behind ∙ ends-lines c _ (number + 1) (level + 1) kids (kids-sound (elem name kids) sound).first in
     omega (arith, from, end)
-part-attributes bytes [] elements attributes number level (attr name value) d are sound = absurd (none-first _ _ are.extents_are)
+part-attributes bytes [] elements attributes number level (attr name value) d are sound = absurd (none_first _ _ (sym are.extents_are))
 part-attributes bytes (e ∷ []) elements attributes number level (attr name value) d are sound = omega arith
 part-attributes bytes (e ∷ f ∷ es) elements attributes number level (attr name value) d are sound = absurd (more-first _ _ _ _ are.extents_are)
-part-attributes bytes [] elements attributes number level (text value) d are sound = absurd (none-first _ _ are.extents_are)
+part-attributes bytes [] elements attributes number level (text value) d are sound = absurd (none_first _ _ (sym are.extents_are))
 part-attributes bytes (e ∷ []) elements attributes number level (text value) d are sound = omega arith
 part-attributes bytes (e ∷ f ∷ es) elements attributes number level (text value) d are sound = absurd (more-first _ _ _ _ are.extents_are)
 

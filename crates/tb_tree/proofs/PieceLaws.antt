@@ -28,7 +28,7 @@ use Rattle.tb_tree.proofs.PrintLaws.{escaped-plain}
 use Rattle.tb_tree.proofs.PrintedBytes.{unescaped-escaped}
 use Rattle.tb_tree.proofs.StandLaws.{stands-first, stands-behind}
 use Rattle.tb_tree.proofs.BackLaws.{raw-attribute, raw-text}
-use Rattle.tb_tree.proofs.BuiltLaws.{same_cons}
+use Rattle.tb_tree.proofs.BuiltLaws.{same_cons, none_first}
 use Rattle.tb_tree.proofs.NodeAtLaws.{part-tells}
 
 -- texts that are joined are what stands below
@@ -104,19 +104,16 @@ attribute-told bytes e behind elements attributes a number level name value stan
     ∙ raw-attribute bytes a name value stands)
     (ap (λ x. x.escaped) is)
 
-first-of : (e : Extent) (xs ys : List Extent) (x : Extent) → e ∷ xs ≡ x ∷ ys → e ≡ x
-first-of e xs ys x are = (same_cons e x xs ys are).0
-
 pub part-attribute : (bytes : List ℕ) (es : List code.Extent) (elements attributes : List (List ℕ)) (number level : ℕ) (node : Plain) (d : code.Extent) → AreNodes bytes (map (named elements attributes) es) number level (one node)
     → (get_or es 0 d).kind ≡ kind.Attribute
     → Some (raw_behind bytes (8 + length (get_or attributes (get_or es 0 d).name [])) (get_or es 0 d).from (get_or es 0 d).to, (get_or es 0 d).escaped) ≡ option_map told_piece (piece_of node)
 part-attribute bytes es elements attributes number level (elem name kids) d are attribute =
     absurd (let e : ◌≡◌ {A = Kind} kind.Element kind.Attribute = sym (part-tells bytes es elements attributes number level (elem name kids) d are).kind_is ∙ attribute in cc)
 part-attribute bytes [] elements attributes number level (attr name value) d are attribute =
-    absurd (let e : ◌≡◌ {A = List Extent} [] (attribute_extent are.attributes_at number name value level ∷ []) = are.extents_are in cc)
+    absurd (none_first _ _ (sym are.extents_are))
 part-attribute bytes (e ∷ es) elements attributes number level (attr name value) d are attribute =
     attribute-told bytes e [] elements attributes are.attributes_at number level name value (stands-first bytes are.attributes_at (attribute_line name value) [] are.attributes_stand)
-    (first-of _ _ _ _ are.extents_are) attribute
+    (same_cons _ _ _ _ are.extents_are).0 attribute
 part-attribute bytes es elements attributes number level (text value) d are attribute =
     absurd (let e : ◌≡◌ {A = Kind} kind.Text kind.Attribute = sym (part-tells bytes es elements attributes number level (text value) d are).kind_is ∙ attribute in cc)
 
