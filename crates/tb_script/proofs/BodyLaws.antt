@@ -1,9 +1,10 @@
 -- A body that grows by a line.
-use Rattle.std.proofs.Common.{◌≡◌, ℕ, ◌+◌, ◌-◌, false, List, ◌++◌, length, take, refl, sym, ap, ◌∙◌, arith, append_assoc, length-append}
+use Rattle.std.proofs.Common.{◌≡◌, ℕ, ◌+◌, ◌-◌, true, false, List, ◌++◌, length, take, refl, sym, ap, ◌∙◌, arith, append_assoc, length-append}
 use Rattle.std.proofs.Math.Seq.{take-append_seam}
 use Rattle.tb_script.specs.Lines.{whole_lines, text_of}
 use Rattle.tb_script.specs.Forms.{is_dot}
-use Rattle.tb_script.specs.Entries.{load_body, entries}
+use Rattle.tb_script.specs.Entries.{no_body, load_body, entry, entries}
+use Rattle.tb_script.specs.declared.entry.Said.TheVariants.{Load}
 use Rattle.tb_script.specs.Cuts.{Cut, CutsFirst}
 use Rattle.tb_tree.proofs.lists.Parts.{prefix_is}
 
@@ -16,3 +17,14 @@ pub body_more : (at n : ℕ) (name prefix rest : List ℕ) (cut : Cut) → CutsF
 body_more at n name prefix rest cut c e =
     let dot : is_dot (text_of cut.whole) ≡ false = ap is_dot (sym c.line_is) ∙ e in
     rw (c.lines, dot) refl
+
+-- a line `.` ends the body
+pub body_ends : (at n : ℕ) (name prefix rest : List ℕ) (cut : Cut) → CutsFirst rest cut → is_dot cut.line ≡ true
+    → entries (load_body at name prefix) n (whole_lines rest) ≡ entry at (Load name prefix true) ++ entries no_body (n + 1) (whole_lines cut.rest)
+body_ends at n name prefix rest cut c e =
+    let dot : is_dot (text_of cut.whole) ≡ true = ap is_dot (sym c.line_is) ∙ e in
+    rw (c.lines, dot) refl
+
+-- the bytes before a line, with what is passed up to it
+pub passed_more : (bytes prefix rest passed dotted : List ℕ) → bytes ≡ prefix ++ rest → rest ≡ passed ++ dotted → bytes ≡ (prefix ++ passed) ++ dotted
+passed_more bytes prefix rest passed dotted e f = e ∙ ap (λ r. prefix ++ r) f ∙ sym (append_assoc prefix passed dotted)

@@ -1,6 +1,7 @@
 pub mod WorkedRows
 pub mod LineLaws
 pub mod BodyLaws
+pub mod DotLaws
 pub mod MarkLaws
 pub mod EntryLaws
 pub mod RoundLaws

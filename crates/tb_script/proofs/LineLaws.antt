@@ -72,7 +72,7 @@ more-before_first : (b : ℕ) (lines : List (List ℕ)) → length lines ≤ len
 more-before_first b [] = omega arith
 more-before_first b (line ∷ lines) = omega arith
 
-same-before_first : (b : ℕ) (lines : List (List ℕ)) → 0 < length lines → length (before_first b lines) ≡ length lines
+pub same-before_first : (b : ℕ) (lines : List (List ℕ)) → 0 < length lines → length (before_first b lines) ≡ length lines
 same-before_first b [] some = absurd (omega (arith, some))
 same-before_first b (line ∷ lines) some = refl
 

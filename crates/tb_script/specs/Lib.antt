@@ -3,6 +3,7 @@
 pub mod Lines
 pub mod Forms
 pub mod Entries
+pub mod Dots
 pub mod Faults
 pub mod Sessions
 pub mod Rounds
