@@ -1,14 +1,14 @@
 #!/usr/bin/env python3
 """Prints a script that loads one large document and asks one query of it.
 
-    make_script.py SEED MEGABYTES [--same | --document | --sessions S] [--implied PERCENT]
+    make_script.py SEED MEGABYTES [--same | --document | --load | --sessions S] [--implied PERCENT]
 
 The document is random, and the same for the same words. It takes at most MEGABYTES million bytes,
 and falls short of them by less than one subtree. The query asks for each `part` with each `item`
 below it, or with each `part` below it where `--same` is given. With `--sessions` there are S sessions with
 four loads each, all of MEGABYTES million bytes; behind each load its session asks the query of it, and at the
 end, behind a mark of the session before it, of that session's last document. With `--document` the document's lines
-are printed alone. The document has elements alone; with `--implied` it has attributes and texts too, as
+are printed alone, and with `--load` the load alone. The document has elements alone; with `--implied` it has attributes and texts too, as
 onsgmls prints them, and PERCENT of 100 attribute lines are of type IMPLIED.
 """
 
@@ -165,6 +165,7 @@ def main():
     form = words.add_mutually_exclusive_group()
     form.add_argument("--same", action="store_true", help="ask for one name twice")
     form.add_argument("--document", action="store_true", help="print the document alone")
+    form.add_argument("--load", action="store_true", help="ask no query")
     form.add_argument("--sessions", type=int, metavar="S", help="sessions with four loads each")
     words.add_argument("--implied", type=int, metavar="PERCENT", help="with attributes and texts")
     given = words.parse_args()
@@ -180,6 +181,9 @@ def main():
             return
         out.write(b"session\nload %b\n" % DOCUMENT)
         write_body(out, given.seed, most, content)
+        if given.load:
+            out.write(b".\n")
+            return
         query = b'MATCH document("%b") (//- %b (//- %b))' % (DOCUMENT, FIRST, second)
         out.write(b".\nquery\n%b\n.\n" % query)
 

@@ -1,0 +1,48 @@
+//! A document with the lists of its nodes by kind and name, each node with its label.
+
+use crate::reader::{Document, Kind};
+
+/// The label of a node, and its number.
+#[allow(dead_code)]
+#[derive(Clone, Copy)]
+pub struct Item {
+    pub start: u32,
+    pub end: u32,
+    pub level: u16,
+    pub node: u32,
+}
+
+#[allow(dead_code)]
+pub struct Store {
+    pub document: Document,
+    pub elements: Vec<Vec<Item>>,
+    pub all_elements: Vec<Item>,
+    pub attributes: Vec<Vec<Item>>,
+    pub all_attributes: Vec<Item>,
+    pub texts: Vec<Item>,
+}
+
+impl Store {
+    pub fn build(document: Document) -> Store {
+        let mut elements = vec![Vec::new(); document.elements.len()];
+        let mut attributes = vec![Vec::new(); document.attributes.len()];
+        let (mut all_elements, mut all_attributes, mut texts) = (Vec::new(), Vec::new(), Vec::new());
+        for (number, extent) in (1..).zip(&document.extents) {
+            let start = 2 * number + 1 - u32::from(extent.level);
+            let end = start + 2 * (extent.last - number) + 1;
+            let item = Item { start, end, level: extent.level, node: number };
+            match extent.kind {
+                Kind::Element => {
+                    elements[extent.name as usize].push(item);
+                    all_elements.push(item);
+                }
+                Kind::Attribute => {
+                    attributes[extent.name as usize].push(item);
+                    all_attributes.push(item);
+                }
+                Kind::Text => texts.push(item),
+            }
+        }
+        Store { document, elements, all_elements, attributes, all_attributes, texts }
+    }
+}
