@@ -26,12 +26,13 @@ pub struct Reader {
 }
 
 impl Reader {
-    pub fn new(alloc: Global) -> Result<Reader, AllocError>
+    /// Nothing made yet, with room for the document of so many bytes of lines.
+    pub fn with_capacity(alloc: Global, bytes: usize) -> Result<Reader, AllocError>
         ensures reading { IfOk result (λ reader. IsReading reader nothing_made) }
         ensures empty { IfOk result (λ reader. size_of reader.draft ≡ 0) }
     {
         Ok(Reader {
-            draft: Draft::new(alloc)?,
+            draft: Draft::with_capacity(alloc, bytes)?,
         })
     }
 

@@ -19,7 +19,7 @@ pub fn read_tree(alloc: Global, lines: &[u8]) -> Result<Tree, EsisFault>
     ensures levels { IfOk result (λ tree. levels (one (plain_of tree)) ≤ 512) }
     ensures fewer { IfOk result (λ tree. count (plain_of tree) < length lines.now) }
 {
-    let mut reader = Reader::new(alloc)?;
+    let mut reader = Reader::with_capacity(alloc, lines.len())?;
     let mut scratch = Vec::new(alloc);
     let mut rest = lines;
     let mut number = 1;

@@ -41,13 +41,14 @@ pub struct Draft {
 }
 
 impl Draft {
-    pub fn new(alloc: Global) -> Result<Draft, AllocError>
+    /// No node yet, with room for so many bytes of lines, and for the nodes that they commonly have.
+    pub fn with_capacity(alloc: Global, bytes: usize) -> Result<Draft, AllocError>
         ensures { IfOk result (λ draft. Shows draft nothing_made) }
     {
         Ok(Draft {
             alloc,
-            text: Vec::new(alloc),
-            extents: Vec::new(alloc),
+            text: Vec::with_capacity(alloc, bytes)?,
+            extents: Vec::with_capacity(alloc, bytes / 16)?,
             stack: Vec::new(alloc),
             elements: Names::new(alloc)?,
             attributes: Names::new(alloc)?,

@@ -22,7 +22,7 @@ impl Tree {
         if !is_element(node) {
             return Ok(None);
         }
-        let mut draft = Draft::new(alloc)?;
+        let mut draft = Draft::with_capacity(alloc, 0)?;
         plant(node, &mut draft)?;
         Ok(Some(draft.finish()))
     }
