@@ -3,6 +3,7 @@ use Rattle.std.proofs.Common.{◌≡◌, ℕ, ◌+◌, Bool, true, false, ◌&&�
 use Rattle.std.proofs.lemmas.Bool.{and_parts, and_from, false≢true}
 use Rattle.tb_tree.specs.Names.{is_name}
 use Rattle.tb_tree.specs.Sound.{is_empty_list}
+use Rattle.tb_tree.proofs.lists.Options.{some-none}
 use Rattle.tb_esis.specs.Lines.{Line, opens, closes, attribute, characters, conforms, passed_over, is_implied, is_kept}
 use Rattle.tb_esis.specs.Faults.{Open, fault_at, after_line, first_fault, fault_or}
 use Rattle.tb_tree.specs.Making.{Made}
@@ -23,12 +24,9 @@ pub no_fault-none : (f : Option (ℕ → EsisFault)) → is_no_fault f ≡ true 
 no_fault-none None e = refl
 no_fault-none (Some fault) e = absurd (false≢true e)
 
-some_fault : (f : EsisFault) → ◌≡◌ {A = Option EsisFault} (Some f) None → ⊥
-some_fault f e = cc
-
 none_or : (f : Option (ℕ → EsisFault)) (number : ℕ) (later : Option EsisFault) → fault_or f number later ≡ None → (is_no_fault f ≡ true) × (later ≡ None)
 none_or None number later e = (refl, e)
-none_or (Some fault) number later e = absurd (some_fault (fault number) e)
+none_or (Some fault) number later e = absurd (some-none (fault number) e)
 
 pub clean-none : (o : Open) (lines : List Line) (number : ℕ) → is_clean o lines ≡ true → first_fault number o lines ≡ None
 clean-none o [] number e = rw (no_fault-none (fault_at o conforms) e) refl

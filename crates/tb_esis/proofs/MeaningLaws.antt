@@ -8,6 +8,8 @@ use Rattle.tb_tree.specs.Plain.{Plain, elem, attr, Plains, kid, one, plains, kid
 use Rattle.tb_tree.specs.Names.{is_name}
 use Rattle.tb_tree.specs.Sound.{is_empty_list}
 use Rattle.tb_tree.specs.Escapes.{unescaped}
+use Rattle.tb_tree.proofs.lists.Bools.{denied}
+use Rattle.tb_tree.proofs.lists.Options.{some-none, cond-none}
 use Rattle.tb_esis.specs.Lines.{Line, opens, closes, attribute, characters, is_implied}
 use Rattle.tb_esis.specs.Reading.{with_text, Attributes, next, Kids, goes_on, child, Ends, no_bytes}
 use Rattle.tb_esis.specs.Faults.{Open, fault_at, is_none_of, fault_of_data, fault_of_value}
@@ -74,17 +76,6 @@ pub record Leads (m : Made) (room : ℕ) (line : Line) : Type 0 where
   pub leads : (lines : List Line) (tree : Plain) → MadeMeans (made_behind m line) next_room lines tree → MadeMeans m room (line ∷ lines) tree
 
 -- data
-pub not-true : (b : Bool) → not b ≡ false → b ≡ true
-not-true true e = refl
-not-true false e = absurd (false≢true (sym e))
-
-pub some_none : {A : Type 0} (x : A) → ◌≡◌ {A = Option A} (Some x) None → ⊥
-some_none x e = cc
-
-pub kept_none : {A : Type 0} (b : Bool) (f : A) (o : Option A) → cond b (Some f) o ≡ None → (b ≡ false) × (o ≡ None)
-kept_none true f o e = absurd (some_none f e)
-kept_none false f o e = (refl, e)
-
 pub no_names : (ws : List Plain) → is_none_of (names_of ws) ≡ true → ws ≡ []
 no_names [] e = refl
 no_names (w ∷ ws) e = absurd (false≢true e)
@@ -96,11 +87,11 @@ pub record NoDataFault (o : Open) (read : Option (List ℕ)) : Type 0 where
   pub inside : (is_none_of o.elements && not (is_empty_list given)) ≡ false
 
 pub no_data_fault : (o : Open) (read : Option (List ℕ)) → fault_of_data o read ≡ None → NoDataFault o read
-no_data_fault o None e = absurd (some_none _ e)
+no_data_fault o None e = absurd (some-none _ e)
 no_data_fault o (Some given) e =
-    let one = kept_none (not (is_none_of o.waiting)) _ _ e in
-    let two = kept_none (is_none_of o.elements && not (is_empty_list given)) _ _ one.1 in
-    record { given = given; is = refl; none_wait = not-true (is_none_of o.waiting) one.0; inside = two.0 }
+    let one = cond-none (not (is_none_of o.waiting)) _ _ e in
+    let two = cond-none (is_none_of o.elements && not (is_empty_list given)) _ _ one.1 in
+    record { given = given; is = refl; none_wait = denied (is_none_of o.waiting) one.0; inside = two.0 }
 
 pub empty_is : (given : List ℕ) → not (is_empty_list given) ≡ false → given ≡ []
 empty_is [] e = refl
@@ -144,7 +135,7 @@ pub record NoAttributeFault (o : Open) (name type raw : List ℕ) : Type 0 where
   pub read : unescaped raw ≡ Some value
 
 pub read_value : (o : Option (List ℕ)) → fault_of_value o ≡ None → (value : List ℕ) × (o ≡ Some value)
-read_value None e = absurd (some_none _ e)
+read_value None e = absurd (some-none _ e)
 read_value (Some value) e = (value, refl)
 
 pub not_guarded : {A : Type 0} (b : Bool) (o : Option A) → b ≡ false → cond b None o ≡ None → o ≡ None
@@ -153,11 +144,11 @@ not_guarded false o f e = e
 
 pub no_attribute_fault : (o : Open) (name type raw : List ℕ) → is_implied type ≡ false → fault_at o (attribute name type raw) ≡ None → NoAttributeFault o name type raw
 no_attribute_fault o name type raw valued e =
-    let one = kept_none (not (is_name name)) _ _ e in
-    let two = kept_none (is_empty_list type) _ _ one.1 in
-    let four = kept_none (list_any (bytes_eq name) o.waiting) _ _ (not_guarded (is_implied type) _ valued two.1) in
+    let one = cond-none (not (is_name name)) _ _ e in
+    let two = cond-none (is_empty_list type) _ _ one.1 in
+    let four = cond-none (list_any (bytes_eq name) o.waiting) _ _ (not_guarded (is_implied type) _ valued two.1) in
     let found = read_value (unescaped raw) four.1 in
-    record { value = found.0; named = not-true (is_name name) one.0; typed = two.0; new = four.0; read = found.1 }
+    record { value = found.0; named = denied (is_name name) one.0; typed = two.0; new = four.0; read = found.1 }
 
 pub attribute_child :
     (room : ℕ) (running : List ℕ) (ws : List Plain) (name type raw value : List ℕ) (kids : Plains) (lines rest : List Line)

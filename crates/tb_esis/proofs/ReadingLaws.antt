@@ -7,6 +7,8 @@ use Rattle.tb_tree.specs.Printed.{printed_node}
 use Rattle.tb_tree.specs.TextLines.{CutsLine}
 use Rattle.tb_tree.specs.View.{plain_of}
 use Rattle.tb_tree.specs.declared.node.Node.{Node}
+use Rattle.tb_tree.proofs.lists.Options.{some-none}
+use Rattle.tb_tree.proofs.PutLaws.{length-put}
 use Rattle.tb_esis.specs.Lines.{Line, opens, closes, attribute, characters, conforms, passed_over, is_implied, line_of, document_lines}
 use Rattle.tb_esis.specs.Reading.{IsReadAs}
 use Rattle.tb_esis.specs.Faults.{fault_at, fault_or, first_fault, fault_of, after_line}
@@ -101,13 +103,10 @@ pub record HasEnded (m : Made) : Type 0 where
   pub none_wait : m.waiting ≡ []
   pub root_is : m.root ≡ Some root
 
-some_fault : {A : Type 0} {x : A} → ◌≡◌ {A = Option A} (Some x) None → ⊥
-some_fault e = cc
-
 ended_case : (m : Made) (frames : List Frame) (waiting : List Plain) (root : Option Plain) → m.frames ≡ frames → m.waiting ≡ waiting → m.root ≡ root → fault_at (open_of m) conforms ≡ None → HasEnded m
-ended_case m frames (w ∷ ws) root are wait is none = absurd (some_fault (rw wait at none))
-ended_case m [] [] None are wait is none = absurd (some_fault (rw (wait, are, is) at none))
-ended_case m (f ∷ fs) [] root are wait is none = absurd (some_fault (rw (wait, are) at none))
+ended_case m frames (w ∷ ws) root are wait is none = absurd (some-none _ (rw wait at none))
+ended_case m [] [] None are wait is none = absurd (some-none _ (rw (wait, are, is) at none))
+ended_case m (f ∷ fs) [] root are wait is none = absurd (some-none _ (rw (wait, are) at none))
 ended_case m [] [] (Some root) are wait is none = record { root = root; none_open = are; none_wait = wait; root_is = is }
 
 pub has-ended : (m : Made) → fault_at (open_of m) conforms ≡ None → HasEnded m
@@ -143,18 +142,14 @@ ended_frames m [] = omega arith
 ended_frames m (f ∷ []) = omega arith
 ended_frames m (f ∷ g ∷ fs) = omega arith
 
-put_frames : (nodes : List Plain) (fs : List Frame) → length (put nodes fs) ≡ length fs
-put_frames nodes [] = refl
-put_frames nodes (f ∷ fs) = refl
-
 attribute_frames : (m : Made) (name type raw : List ℕ) (implied : Bool) → is_implied type ≡ implied → length (made_behind m (attribute name type raw)).frames ≤ length m.frames
 attribute_frames m name type raw true e = rw e (omega arith)
 attribute_frames m name type raw false e = rw e (omega arith)
 
 pub frames-deep : (m : Made) (line : Line) → fault_at (open_of m) line ≡ None → length m.frames ≤ 512 → length (made_behind m line).frames ≤ 512
 frames-deep m (opens name) none deep =
-    omega (arith, deep, put_frames (text_of m.running) m.frames, length-map m.frames (λ (f : Frame). f.name), eqb-false _ _ (no_start_fault (open_of m) name none).2)
-frames-deep m (closes name) none deep = omega (arith, deep, ended_frames (with_text_ended m) (put (text_of m.running) m.frames), put_frames (text_of m.running) m.frames)
+    omega (arith, deep, length-put (text_of m.running) m.frames, length-map m.frames (λ (f : Frame). f.name), eqb-false _ _ (no_start_fault (open_of m) name none).2)
+frames-deep m (closes name) none deep = omega (arith, deep, ended_frames (with_text_ended m) (put (text_of m.running) m.frames), length-put (text_of m.running) m.frames)
 frames-deep m (attribute name type raw) none deep = omega (arith, deep, attribute_frames m name type raw (is_implied type) refl)
 frames-deep m (characters raw) none deep = deep
 frames-deep m conforms none deep = deep

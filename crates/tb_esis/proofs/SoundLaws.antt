@@ -6,6 +6,9 @@ use Rattle.std.proofs.lemmas.Slice.Eq.{bytes_eq-Decides}
 use Rattle.tb_tree.specs.Plain.{Plain, elem, Plains, no_kids, kid, one, plains, kids_listed, is_element}
 use Rattle.tb_tree.specs.Names.{is_name}
 use Rattle.tb_tree.proofs.PlantLaws.{plains-listed}
+use Rattle.tb_tree.proofs.lists.Bools.{denied}
+use Rattle.tb_tree.proofs.lists.Options.{some-none, cond-none}
+use Rattle.tb_tree.proofs.PutLaws.{length-put}
 use Rattle.tb_esis.specs.Lines.{Line, opens, closes, attribute, characters, conforms, passed_over, is_implied, is_kept, document_lines}
 use Rattle.tb_esis.specs.Reading.{with_text, no_more, Kids, over, ended, conforming, IsReadAs}
 use Rattle.tb_esis.specs.Faults.{Open, at_start, fault_of, fault_at, after_line, is_none_of, is_innermost}
@@ -13,23 +16,20 @@ use Rattle.tb_tree.specs.Making.{Frame, Made, nothing_made, names_of, text_of, p
 use Rattle.tb_esis.specs.Machine.{made_behind, open_of}
 use Rattle.tb_esis.proofs.KeptLaws.{is_no_fault, is_clean, no_fault-none, none-clean, passes}
 use Rattle.tb_esis.proofs.OpenLaws.{open-behind}
-use Rattle.tb_esis.proofs.MeaningLaws.{before_kids, KidsMean, child-mean, OutsideMeans, Means, MadeMeans, Leads, not-true, some_none, kept_none, no_names, characters_lead, attribute_leads}
+use Rattle.tb_esis.proofs.SpelledRuns.{listed-with_text}
+use Rattle.tb_esis.proofs.MeaningLaws.{before_kids, KidsMean, child-mean, OutsideMeans, Means, MadeMeans, Leads, no_names, characters_lead, attribute_leads}
 
 -- a start
 pub no_start_fault : (o : Open) (name : List ℕ) → fault_at o (opens name) ≡ None → IsTrue (is_name name) × ((o.begun && is_none_of o.elements) ≡ false) × (nat_eq (length o.elements) 512 ≡ false)
 no_start_fault o name e =
-    let one = kept_none (not (is_name name)) _ _ e in
-    let two = kept_none (o.begun && is_none_of o.elements) _ _ one.1 in
-    let three = kept_none (nat_eq (length o.elements) 512) _ _ two.1 in
-    (not-true (is_name name) one.0, two.0, three.0)
+    let one = cond-none (not (is_name name)) _ _ e in
+    let two = cond-none (o.begun && is_none_of o.elements) _ _ one.1 in
+    let three = cond-none (nat_eq (length o.elements) 512) _ _ two.1 in
+    (denied (is_name name) one.0, two.0, three.0)
 
 before-listed : (nodes : List Plain) (kids : Plains) → plains (nodes ++ kids_listed kids) ≡ before_kids nodes kids
 before-listed [] kids = plains-listed kids
 before-listed (node ∷ nodes) kids = ap (kid node) (before-listed nodes kids)
-
-listed-with_text : (given : List ℕ) (kids : Plains) → kids_listed (with_text given kids) ≡ text_of given ++ kids_listed kids
-listed-with_text [] kids = refl
-listed-with_text (b ∷ bs) kids = refl
 
 started : (ws : List Plain) (name : List ℕ) (kids : Plains) → elem name (plains ((ws ++ []) ++ kids_listed kids)) ≡ elem name (before_kids ws kids)
 started ws name kids = ap (elem name) (ap (λ ns. plains (ns ++ kids_listed kids)) (append-nil ws) ∙ before-listed ws kids)
@@ -86,10 +86,6 @@ not_at_limit : (n room : ℕ) → n + room ≡ 512 → nat_eq n 512 ≡ false �
 not_at_limit n zero fits less = absurd (eqb-false n 512 less (omega (arith, fits)))
 not_at_limit n (suc room) fits less = omega arith
 
-length-put : (nodes : List Plain) (fs : List Frame) → length (put nodes fs) ≡ length fs
-length-put nodes [] = refl
-length-put nodes (f ∷ fs) = refl
-
 opens_lead : (m : Made) (room : ℕ) (name : List ℕ) → length m.frames + room ≡ 512 → fault_at (open_of m) (opens name) ≡ None → Leads m room (opens name)
 opens_lead m room name fits none =
     let no = no_start_fault (open_of m) name none in
@@ -107,12 +103,12 @@ innermost name (f ∷ fs) e = (f, fs, refl, (bytes_eq-Decides f.name name).0 e)
 
 dropped : {A : Type 0} (b : Bool) (x : A) → cond b None (Some x) ≡ None → b ≡ true
 dropped true x e = refl
-dropped false x e = absurd (some_none x e)
+dropped false x e = absurd (some-none x e)
 
 no_end_fault : (m : Made) (name : List ℕ) → fault_at (open_of m) (closes name) ≡ None → (m.waiting ≡ []) × (is_innermost name (map (λ (f : Frame). f.name) m.frames) ≡ true)
 no_end_fault m name e =
-    let one = kept_none (not (is_none_of (names_of m.waiting))) _ _ e in
-    (no_names m.waiting (not-true (is_none_of (names_of m.waiting)) one.0), dropped (is_innermost name (map (λ (f : Frame). f.name) m.frames)) _ one.1)
+    let one = cond-none (not (is_none_of (names_of m.waiting))) _ _ e in
+    (no_names m.waiting (denied (is_none_of (names_of m.waiting)) one.0), dropped (is_innermost name (map (λ (f : Frame). f.name) m.frames)) _ one.1)
 
 ended_node : (f : Frame) (running : List ℕ) → elem f.name (plains ((f.kids ++ []) ++ kids_listed (with_text running no_kids))) ≡ elem f.name (plains (f.kids ++ text_of running))
 ended_node f running =
@@ -168,10 +164,10 @@ done_root (f ∷ fs) root begun inside = absurd (false≢true inside)
 
 pub no_conform_fault : (m : Made) → fault_at (open_of m) conforms ≡ None → IsDone m
 no_conform_fault m e =
-    let one = kept_none (not (is_none_of (names_of m.waiting))) _ _ e in
-    let two = kept_none (not (has_begun m.frames m.root)) _ _ one.1 in
+    let one = cond-none (not (is_none_of (names_of m.waiting))) _ _ e in
+    let two = cond-none (not (has_begun m.frames m.root)) _ _ one.1 in
     let done = done_root m.frames m.root two.0 (dropped (is_none_of (map (λ (f : Frame). f.name) m.frames)) _ two.1) in
-    record { tree = done.0; none_open = done.1; none_wait = no_names m.waiting (not-true (is_none_of (names_of m.waiting)) one.0); root = done.2 }
+    record { tree = done.0; none_open = done.1; none_wait = no_names m.waiting (denied (is_none_of (names_of m.waiting)) one.0); root = done.2 }
 
 done_means : (m : Made) (room : ℕ) (lines : List Line) (tree : Plain) (d : IsDone m) → OutsideMeans (Some d.tree) [] [] lines tree → MadeMeans m room lines tree
 done_means m room lines tree d means = rw (d.none_open, d.none_wait, d.root) means
@@ -198,7 +194,7 @@ valued type name raw true e kept named = absurd (false≢true (sym (ap not (ap�
 valued type name raw false e kept named = e
 
 named_of : (o : Open) (name type raw : List ℕ) → fault_at o (attribute name type raw) ≡ None → IsTrue (is_name name)
-named_of o name type raw e = not-true (is_name name) (kept_none (not (is_name name)) _ _ e).0
+named_of o name type raw e = denied (is_name name) (cond-none (not (is_name name)) _ _ e).0
 
 kept_leads : (m : Made) (room : ℕ) (line : Line) → is_kept line ≡ true → length m.frames + room ≡ 512 → fault_at (open_of m) line ≡ None → Leads m room line
 kept_leads m room (opens name) kept fits none = opens_lead m room name fits none

@@ -89,7 +89,7 @@ pub record KidsMade (f : Frame) (fs : List Frame) (root : Option Plain) (given :
   pub runs : Runs (within f fs given root) lines (within (with_kids f more) fs left root) rest
   pub listed : more ++ text_of left ≡ kids_listed kids
 
-listed-with_text : (given : List ℕ) (kids : Plains) → kids_listed (with_text given kids) ≡ text_of given ++ kids_listed kids
+pub listed-with_text : (given : List ℕ) (kids : Plains) → kids_listed (with_text given kids) ≡ text_of given ++ kids_listed kids
 listed-with_text [] kids = refl
 listed-with_text (b ∷ bs) kids = refl
 

@@ -1,7 +1,7 @@
 -- What lies on a stack, and what stays when it is cut, filtered or pushed.
-use Rattle.std.proofs.Common.{◌≡◌, ℕ, ◌+◌, ◌-◌, ◌<◌, ◌≤◌, ◌⊎◌, inl, inr, Bool, true, nat_lt, List, [], ◌∷◌, ◌++◌, length, get_or, take, slice_get, Option, Some, option_to_list, All, filter, sym, ap, ◌∙◌, subst, arith}
+use Rattle.std.proofs.Common.{◌≡◌, ℕ, ◌+◌, ◌-◌, ◌<◌, ◌≤◌, ◌⊎◌, inl, inr, Bool, true, nat_lt, List, [], ◌∷◌, ◌++◌, length, get_or, slice_get, Option, Some, option_to_list, All, filter, sym, ap, ◌∙◌, subst, arith}
 use Rattle.std.proofs.lemmas.Bool.{cases_eq, le-leb, leb-true, ltb-true, and_parts}
-use Rattle.std.proofs.lemmas.List.{get_or_append_left, length_push, take_all, take_more}
+use Rattle.std.proofs.lemmas.List.{get_or_append_left, length_push}
 use Rattle.std.proofs.lemmas.List.Elements.{All-nil, All-filter, All-weaker, All-push, filter_passes, All-from_get_or}
 use Rattle.std.proofs.lemmas.List.Kept.{AllPairs-filter}
 use Rattle.tb_span.specs.Span.{Span, Nests, same, before, after, above, below, IsAbove}
@@ -116,9 +116,3 @@ pub popped-last : (stack seen rest : List ℕ) (top : ℕ) (taken : Option ℕ) 
     → ◌≡◌ {A = Option ℕ} (Some top) (slice_get seen (length seen - 1)) → stack ≡ rest ++ top ∷ []
 popped-last stack seen rest top taken read parts last is =
     parts ∙ ap (λ o. rest ++ option_to_list o) (last ∙ ap (λ xs. slice_get xs (length xs - 1)) (sym read) ∙ sym is)
-
-pub split-last : (stack : List ℕ) (top : ℕ) → 0 < length stack → top ≡ get_or stack (length stack - 1) top → stack ≡ take (length stack - 1) stack ++ top ∷ []
-split-last stack top some is =
-    let whole : length stack - 1 + 1 ≡ length stack = omega arith in
-    sym (take_all (length stack) stack (omega arith)) ∙ ap (λ n. take n stack) (sym whole)
-    ∙ take_more stack (length stack - 1) top (omega arith) ∙ ap (λ x. take (length stack - 1) stack ++ x ∷ []) (sym is)

@@ -13,7 +13,7 @@ use Rattle.tb_tree.specs.declared.extent.Extent as code
 use Rattle.tb_tree.specs.declared.node.Node.{Node}
 use Rattle.tb_tree.proofs.Views.{plain_of-Elem, plain_of-Attr, plain_of-Text}
 use Rattle.tb_tree.proofs.PrintedBytes.{unescaped-escaped}
-use Rattle.tb_tree.proofs.JoinedLaws.{length-extents}
+use Rattle.tb_tree.proofs.JoinedLaws.{length-extents, joined-none}
 use Rattle.tb_tree.proofs.StandLaws.{stands-first, stands-behind, stands-between}
 
 -- deeper extents are passed over
@@ -39,10 +39,6 @@ stops-rest bytes level a c n no_kids more stops l less = stops l less
 stops-rest bytes level a c n (kid (elem name kids) rest) more stops l less = rw (lt-ltb level l less) refl
 stops-rest bytes level a c n (kid (attr name value) rest) more stops l less = rw (lt-ltb level l less) refl
 stops-rest bytes level a c n (kid (text value) rest) more stops l less = rw (lt-ltb level l less) refl
-
-joined-none : (ks : Plains) → joined_kids ks no_kids ≡ ks
-joined-none no_kids = refl
-joined-none (kid k rest) = ap (kid k) (joined-none rest)
 
 -- the value of an attribute and of a text as it stands in its line
 pub raw-attribute : (bytes : List ℕ) (at : ℕ) (name value : List ℕ) → Stands bytes at (attribute_line name value) → raw_behind bytes (8 + length name) at (at + length (attribute_line name value)) ≡ escaped value

@@ -11,7 +11,7 @@ use Rattle.tb_tree.proofs.StandLaws.{stands-first, stands-behind}
 use Rattle.tb_tree.specs.declared.extent.Extent as code
 use Rattle.tb_tree.specs.declared.node.Node.{Node}
 use Rattle.tb_tree.specs.View.{plain_of, plains_of}
-use Rattle.tb_tree.proofs.JoinedLaws.{length-extents, plains-append}
+use Rattle.tb_tree.proofs.JoinedLaws.{length-extents, plains-append, joined-none}
 use Rattle.tb_tree.proofs.BackLaws.{attribute-value, text-value}
 
 -- what a first extent says: the node's kids, what stands behind it, and the node
@@ -185,10 +185,6 @@ built-more bytes f rest d number level below next nodes more kids node inside be
           ∙ kids-joined (map plain_of nodes) (plain_of node) first.others
           ∙ ap (λ n. joined_kids (plains_of nodes) (kid n first.others)) is ∙ ap (joined_kids (plains_of nodes)) first.node_is ∙ built.whole;
     }
-
-joined-none : (ks : Plains) → joined_kids ks no_kids ≡ ks
-joined-none no_kids = refl
-joined-none (kid k rest) = ap (kid k) (joined-none rest)
 
 pub built-all : (bytes : List ℕ) (f : code.Extent → Extent) (rest : List code.Extent) (number level : ℕ) (nodes : List Node) (ks : Plains) → rest ≡ [] → IsBuilt bytes f rest number level nodes ks → plains_of nodes ≡ ks
 built-all bytes f rest number level nodes ks empty built =

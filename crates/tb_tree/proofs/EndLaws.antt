@@ -1,7 +1,7 @@
 -- The innermost element of a draft ends.
-use Rattle.std.proofs.Common.{◌≡◌, ℕ, ◌+◌, ◌-◌, ◌<◌, true, false, not, List, [], ◌∷◌, ◌++◌, length, map, set, take, get_or, Option, Some, refl, sym, ap, ap₂, ◌∙◌, subst, arith, append_assoc, append-nil, length-append, take-append-drop}
+use Rattle.std.proofs.Common.{◌≡◌, ℕ, ◌+◌, ◌-◌, ◌<◌, true, false, not, List, [], ◌∷◌, ◌++◌, length, map, set, take, get_or, Option, Some, refl, sym, ap, ap₂, ◌∙◌, subst, arith, append_assoc, append-nil, length-append}
 use Rattle.std.proofs.lemmas.Bool.{false≢true}
-use Rattle.std.proofs.lemmas.List.{length-set, length-map, same_from_push, get_or-map, get_or_at, drop_more, drop_all}
+use Rattle.std.proofs.lemmas.List.{length-set, length-map, same_from_push, get_or-map, get_or_at}
 use Rattle.std.proofs.lemmas.Slice.Eq.{bytes_eq-Decides}
 use Rattle.tb_tree.specs.Plain.{Plain, elem, plains, one}
 use Rattle.tb_tree.specs.Numbers.{counts}
@@ -12,6 +12,7 @@ use Rattle.tb_tree.specs.declared.extent.Extent as code
 use Rattle.tb_tree.specs.declared.extent.Kind.TheVariants as kind
 use Rattle.tb_tree.specs.declared.draft.Draft.{Draft}
 use Rattle.tb_tree.specs.Drafts.{begun_text, begun_extents, root_text, root_extents, open_numbers, going, waiting_extents, shown_extents, is_none, ended_extent, IsSingle, Shows}
+use Rattle.tb_tree.proofs.lists.Parts.{last-split}
 use Rattle.tb_tree.proofs.JoinedLaws.{length-extents}
 use Rattle.tb_tree.proofs.PutLaws.{put-none, put-text, put-extents, put-numbers}
 use Rattle.tb_tree.specs.NameTables.{IsNumber}
@@ -143,10 +144,10 @@ pub shows-end : (d d' : Draft) (m : Made) (name : List ℕ) (place to last : ℕ
 shows-end d d' m name place to last e = end_case d d' m name m.frames place to last e refl
 
 -- The innermost element's extent, whose place stands last on the stack, has its name.
-innermost_case : (d : Draft) (m : Made) (frames : List Frame) (front : List ℕ) (place : ℕ) → m.frames ≡ frames → Shows d m → d.stack.items ≡ front ++ place ∷ []
+innermost_case : (d : Draft) (m : Made) (frames : List Frame) (prefix : List ℕ) (place : ℕ) → m.frames ≡ frames → Shows d m → d.stack.items ≡ prefix ++ place ∷ []
     → (name : List ℕ) × (innermost_name frames ≡ Some name) × (place < length d.extents.items) × ((e : code.Extent) → IsNumber d.elements name (get_or d.extents.items place e).name)
-innermost_case d m [] front place are s last_is = absurd (omega (arith, ap length last_is, length-append front (place ∷ []), ap length (s.open_are ∙ ap (open_numbers m.root) are)))
-innermost_case d m (g ∷ gs) front place are s last_is =
+innermost_case d m [] prefix place are s last_is = absurd (omega (arith, ap length last_is, length-append prefix (place ∷ []), ap length (s.open_are ∙ ap (open_numbers m.root) are)))
+innermost_case d m (g ∷ gs) prefix place are s last_is =
     let f : Frame = record { name = g.name; kids = g.kids ++ text_of m.running } in
     let inner : going m ≡ f ∷ gs = ap (put (text_of m.running)) are in
     let begun = begun_extents m.root gs in
@@ -156,7 +157,7 @@ innermost_case d m (g ∷ gs) front place are s last_is =
     let inside = extents at (at + length (attribute_lines (plains f.kids) ++ start_line f.name)) (length begun + 1 + 1) (level + 1) (plains f.kids) in
     let waits = waiting_extents (length (begun_text m.root (going m))) (length (begun_extents m.root (going m)) + 1) (length m.frames + 1) m.waiting in
     let all : shown_extents m ≡ begun ++ (here ∷ (inside ++ waits)) = ap (λ fr. begun_extents m.root fr ++ waits) inner ∙ append_assoc begun (here ∷ inside) waits in
-    let place_is : place ≡ length begun = (same_from_push front (open_numbers m.root gs) place (length begun) (sym last_is ∙ s.open_are ∙ ap (open_numbers m.root) are)).1 in
+    let place_is : place ≡ length begun = (same_from_push prefix (open_numbers m.root gs) place (length begun) (sym last_is ∙ s.open_are ∙ ap (open_numbers m.root) are)).1 in
     let long : length d.extents.items ≡ length begun + 1 + length (inside ++ waits) =
     omega (arith, length-map d.extents.items (named (d.elements ++ []) (d.attributes ++ [])), ap length (s.extents_are [] [] ∙ all), length-append begun (here ∷ (inside ++ waits))) in
     let within : place < length d.extents.items = omega (arith, place_is, long) in (
@@ -172,11 +173,6 @@ innermost_case d m (g ∷ gs) front place are s last_is =
           known-number d.elements x.name g.name
           (λ es. ap (λ k. name_in (d.elements ++ es) (d.attributes ++ []) k x.name) (sym (ap (λ (y : Extent). y.kind) (seen es))) ∙ ap (λ (y : Extent). y.name) (seen es)),
     )
-
-last-split : (xs : List ℕ) (x : ℕ) → 0 < length xs → x ≡ get_or xs (length xs - 1) x → xs ≡ take (length xs - 1) xs ++ x ∷ []
-last-split xs x some is =
-    sym (take-append-drop (length xs - 1) xs)
-    ∙ ap (λ l. take (length xs - 1) xs ++ l) (drop_more xs (length xs - 1) x (omega arith) ∙ ap₂ (λ y l. y ∷ l) (sym is) (drop_all (length xs - 1 + 1) xs (omega arith)))
 
 pub innermost-last : (d : Draft) (m : Made) (stack : List ℕ) (place : ℕ) → Shows d m → stack ≡ d.stack.items → 0 < length stack → place ≡ get_or stack (length stack - 1) place
     → (name : List ℕ) × (innermost_name m.frames ≡ Some name) × (place < length d.extents.items) × ((e : code.Extent) → IsNumber d.elements name (get_or d.extents.items place e).name)

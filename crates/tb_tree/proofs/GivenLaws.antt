@@ -3,6 +3,7 @@ use Rattle.std.proofs.Common.{◌≡◌, ℕ, zero, suc, ◌+◌, ◌-◌, ◌�
 use Rattle.std.specs.List.{prefix_len}
 use Rattle.std.specs.Option.{option_map}
 use Rattle.std.proofs.lemmas.Bool.{and_parts, false≢true}
+use Rattle.std.proofs.lemmas.Option.{none-some}
 use Rattle.std.proofs.lemmas.Str.{length-encode, len_utf8_bounds}
 use lib.Utf8.{scalar}
 use Rattle.tb_tree.specs.Sound.{is_empty_list}
@@ -13,9 +14,6 @@ use Rattle.tb_tree.specs.Escapes.{Escape, is_digit, is_octal, number_from, octal
 record Short (e : Escape) (most : ℕ) : Type 0 where
   gives : length e.gives ≤ 1 + e.takes
   takes : e.takes ≤ most
-
-none_some : {A : Type 0} (x : A) → ◌≡◌ {A = Option A} None (Some x) → ⊥
-none_some x e = cc
 
 same_escape : (a b : Escape) → ◌≡◌ {A = Option Escape} (Some a) (Some b) → a ≡ b
 same_escape a b e = cc
@@ -40,7 +38,7 @@ scalar_short digits behind e true all is =
   where
     utf8_short : (n : ℕ) → length (encode_utf8 n) ≤ 4
     utf8_short n = omega (arith, length-encode n, (len_utf8_bounds n).1)
-scalar_short digits behind e false all is = absurd (none_some e is)
+scalar_short digits behind e false all is = absurd (none-some e is)
 
 octal_length : (b : ℕ) → length (octal_bytes b) ≤ 1
 octal_length b = by_case (b == 10) refl
@@ -51,12 +49,12 @@ octal_length b = by_case (b == 10) refl
 
 octal_case : (a b c : ℕ) (rest : List ℕ) (e : Escape) (ok : Bool) → cond ok (Some (record { gives = octal_bytes (octal_number a b c); takes = 3 })) None ≡ Some e → Short e (3 + length rest)
 octal_case a b c rest e true is = short _ e _ (record { gives = omega (arith, octal_length (octal_number a b c)); takes = omega arith }) is
-octal_case a b c rest e false is = absurd (none_some e is)
+octal_case a b c rest e false is = absurd (none-some e is)
 
 octal_short : (bs : List ℕ) (e : Escape) → octal_escape bs ≡ Some e → Short e (length bs)
-octal_short [] e is = absurd (none_some e is)
-octal_short (a ∷ []) e is = absurd (none_some e is)
-octal_short (a ∷ b ∷ []) e is = absurd (none_some e is)
+octal_short [] e is = absurd (none-some e is)
+octal_short (a ∷ []) e is = absurd (none-some e is)
+octal_short (a ∷ b ∷ []) e is = absurd (none-some e is)
 octal_short (a ∷ b ∷ c ∷ rest) e is =
     let s = octal_case a b c rest e (is_octal a && is_octal b && is_octal c && nat_le (octal_number a b c) 255) is in
     record { gives = s.gives; takes = omega (arith, s.takes) }
@@ -77,7 +75,7 @@ escape_case b rest e false false false false f g h i is =
     record { gives = found.gives; takes = omega (arith, found.takes) }
 
 escape_short : (bs : List ℕ) (e : Escape) → escape_of bs ≡ Some e → Short e (length bs)
-escape_short [] e is = absurd (none_some e is)
+escape_short [] e is = absurd (none-some e is)
 escape_short (b ∷ rest) e is =
     let s = escape_case b rest e (b == 92) (b == 110) (b == 124) (b == 35) refl refl refl refl is in
     record { gives = s.gives; takes = omega (arith, s.takes) }
@@ -86,12 +84,12 @@ same_given : (a b : List ℕ) → ◌≡◌ {A = Option (List ℕ)} (Some a) (So
 same_given a b e = cc
 
 given_behind : (o : Option (List ℕ)) (before v : List ℕ) (most : ℕ) → ((w : List ℕ) → o ≡ Some w → length w ≤ most) → option_map (λ given. before ++ given) o ≡ Some v → length v ≤ length before + most
-given_behind None before v most fits is = absurd (none_some v is)
+given_behind None before v most fits is = absurd (none-some v is)
 given_behind (Some w) before v most fits is = omega (arith, ap length (same_given (before ++ w) v is), length-append before w, fits w refl)
 
 behind_escape : (o : Option Escape) (bs v : List ℕ) → ((e : Escape) → o ≡ Some e → Short e (length bs)) → ((e : Escape) (w : List ℕ) → unescaped_behind e.takes bs ≡ Some w → length w ≤ length bs - e.takes)
     → (o >>= λ e. option_map (λ given. e.gives ++ given) (unescaped_behind e.takes bs)) ≡ Some v → length v ≤ 1 + length bs
-behind_escape None bs v short rest is = absurd (none_some v is)
+behind_escape None bs v short rest is = absurd (none-some v is)
 behind_escape (Some e) bs v short rest is =
     omega (arith, given_behind (unescaped_behind e.takes bs) e.gives v (length bs - e.takes) (rest e) is, (short e refl).gives, (short e refl).takes)
 

@@ -12,6 +12,11 @@ pub plains-append : (xs ys : List Plain) → plains (xs ++ ys) ≡ joined_kids (
 plains-append [] ys = refl
 plains-append (x ∷ xs) ys = ap (kid x) (plains-append xs ys)
 
+-- no node behind the others
+pub joined-none : (ks : Plains) → joined_kids ks no_kids ≡ ks
+joined-none no_kids = refl
+joined-none (kid k rest) = ap (kid k) (joined-none rest)
+
 pub attribute_lines-joined : (xs ys : Plains) → attribute_lines (joined_kids xs ys) ≡ attribute_lines xs ++ attribute_lines ys
 attribute_lines-joined no_kids ys = refl
 attribute_lines-joined (kid (elem name kids) xs) ys = attribute_lines-joined xs ys

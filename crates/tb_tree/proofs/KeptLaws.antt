@@ -15,16 +15,16 @@ use Rattle.tb_tree.specs.Drafts.{begun_text, begun_extents, going, kept_extent, 
 use Rattle.tb_tree.proofs.PutLaws.{length-open}
 
 -- One extent is written anew, as g does in the program and h with names.
-pub patched : (f : code.Extent → Extent) (g : code.Extent → code.Extent) (h : Extent → Extent) (xs : List code.Extent) (front back : List Extent) (here : Extent) (place : ℕ) (e : code.Extent)
-    → ((x : code.Extent) → f (g x) ≡ h (f x)) → map f xs ≡ front ++ here ∷ back → place ≡ length front
-    → map f (set xs place (g (get_or xs place e))) ≡ front ++ h here ∷ back
-patched f g h xs front back here place e alike is at =
-    let within : place < length xs = omega (arith, at, ap length is, length-append front (here ∷ back), length-map xs f) in
+pub patched : (f : code.Extent → Extent) (g : code.Extent → code.Extent) (h : Extent → Extent) (xs : List code.Extent) (prefix back : List Extent) (here : Extent) (place : ℕ) (e : code.Extent)
+    → ((x : code.Extent) → f (g x) ≡ h (f x)) → map f xs ≡ prefix ++ here ∷ back → place ≡ length prefix
+    → map f (set xs place (g (get_or xs place e))) ≡ prefix ++ h here ∷ back
+patched f g h xs prefix back here place e alike is at =
+    let within : place < length xs = omega (arith, at, ap length is, length-append prefix (here ∷ back), length-map xs f) in
     let found : f (get_or xs place e) ≡ here =
-    sym (get_or-map f xs place e (f e) within) ∙ ap (λ l. get_or l place (f e)) is ∙ get_or_at front here back (f e) place (sym at) in
+    sym (get_or-map f xs place e (f e) within) ∙ ap (λ l. get_or l place (f e)) is ∙ get_or_at prefix here back (f e) place (sym at) in
     map-set f xs place (g (get_or xs place e))
     ∙ ap₂ (λ l x. set l place x) is (alike (get_or xs place e) ∙ ap h found)
-    ∙ set_at front here back (h here) place (sym at)
+    ∙ set_at prefix here back (h here) place (sym at)
 
 pub written-at : (new xs ys : List code.Extent) (place : ℕ) (g : code.Extent → code.Extent) (e : code.Extent) → xs ≡ ys → new ≡ set xs place (g (get_or xs place e)) → new ≡ set ys place (g (get_or ys place e))
 written-at new xs ys place g e alike is = subst (λ zs. new ≡ set zs place (g (get_or zs place e))) alike is

@@ -87,9 +87,9 @@ table-kept table known other more t is e =
     })
 
 -- what was pushed is taken off again
-pub popped : (front new less : List (List ℕ)) (name : List ℕ) (len : ℕ) → new ≡ front ++ name ∷ [] → len ≡ length new → less ≡ take (len - 1) new → less ≡ front
-popped front new less name len is long rest =
-    rest ∙ ap (take (len - 1)) is ∙ take_at front (name ∷ []) (len - 1) (omega (arith, long, ap length is, length-append front (name ∷ [])))
+pub popped : (prefix new less : List (List ℕ)) (name : List ℕ) (len : ℕ) → new ≡ prefix ++ name ∷ [] → len ≡ length new → less ≡ take (len - 1) new → less ≡ prefix
+popped prefix new less name len is long rest =
+    rest ∙ ap (take (len - 1)) is ∙ take_at prefix (name ∷ []) (len - 1) (omega (arith, long, ap length is, length-append prefix (name ∷ [])))
 
 -- What a number means, however many names come, stands in the table.
 pub known-number : (names : List (List ℕ)) (n : ℕ) (name : List ℕ) → ((more : List (List ℕ)) → get_or (names ++ more) n [] ≡ name) → IsNumber names name n

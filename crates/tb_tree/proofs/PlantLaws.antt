@@ -1,5 +1,5 @@
 -- A sound node may be put into a draft, part by part, and is then among the kids of the innermost element.
-use Rattle.std.proofs.Common.{◌≡◌, ℕ, ◌+◌, ◌^◌, ◌<◌, ◌≤◌, Bool, true, false, not, ◌&&◌, List, [], ◌∷◌, ◌++◌, length, Option, Some, None, refl, sym, ap, ap₂, ◌∙◌, subst, arith, append_assoc, append-nil, length-append}
+use Rattle.std.proofs.Common.{◌≡◌, ℕ, ◌+◌, ◌^◌, ◌<◌, ◌≤◌, Bool, true, false, not, ◌&&◌, List, [], ◌∷◌, ◌++◌, length, Some, None, refl, sym, ap, ap₂, ◌∙◌, subst, arith, append_assoc, append-nil, length-append}
 use Rattle.std.specs.List.{list_all}
 use Rattle.std.proofs.lemmas.Bool.{and_parts, not-true, false≢true}
 use Rattle.std.proofs.lemmas.Slice.Eq.{bytes_eq-Decides}
@@ -10,7 +10,7 @@ use Rattle.tb_tree.specs.Printed.{printed_node, attribute_lines, content_lines, 
 use Rattle.tb_tree.specs.Pieces.{content_of}
 use Rattle.tb_tree.specs.Making.{Frame, Made, nothing_made, put, text_of, root_or, with_attribute, with_element, with_more_text, with_text_ended, with_element_ended, with_frames_ended, is_innermost}
 use Rattle.tb_tree.specs.Drafts.{begun_text, going, shown_text, IsInside}
-use Rattle.tb_tree.specs.Planting.{with_attributes, with_content, Fits, MayWait, MayBegin, MayEnd, MayTell, MayStand}
+use Rattle.tb_tree.specs.Planting.{with_attributes, with_content, Fits, MayWait, MayBegin, MayEnd, MayStand}
 use Rattle.tb_tree.proofs.LengthLaws.{data-line-length}
 use Rattle.tb_tree.proofs.JoinedLaws.{content-bare}
 use Rattle.tb_tree.proofs.PutLaws.{put-none, put-text, length-put}

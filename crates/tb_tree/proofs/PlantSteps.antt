@@ -1,13 +1,13 @@
 -- What a draft shows while a node's parts go into it one by one.
-use Rattle.std.proofs.Common.{◌≡◌, ℕ, ◌+◌, ◌^◌, ◌<◌, ◌≤◌, true, false, IsTrue, List, [], ◌∷◌, length, drop, get_or, None, refl, sym, ap, ap₂, ◌∙◌, subst, arith}
+use Rattle.std.proofs.Common.{◌≡◌, ℕ, ◌+◌, ◌<◌, ◌≤◌, true, false, IsTrue, List, [], ◌∷◌, length, drop, get_or, None, refl, sym, ap, ap₂, ◌∙◌, subst, arith}
 use Rattle.std.proofs.lemmas.Bool.{false≢true}
 use Rattle.tb_tree.specs.Plain.{Plain, elem, attr, text, Plains, no_kids, kid, one, is_element}
 use Rattle.tb_tree.specs.Sound.{is_attribute, IsSound}
 use Rattle.tb_tree.specs.Levels.{levels}
-use Rattle.tb_tree.specs.Printed.{start_line, end_line, attribute_line, escaped}
-use Rattle.tb_tree.specs.Making.{Frame, Made, nothing_made, with_attribute, with_element, with_element_ended, with_text_ended, is_innermost}
+use Rattle.tb_tree.specs.Printed.{attribute_line}
+use Rattle.tb_tree.specs.Making.{Frame, Made, with_attribute, with_element, is_innermost}
 use Rattle.tb_tree.specs.Drafts.{Shows, HasRoom, IsDone, depth_of}
-use Rattle.tb_tree.specs.Planting.{with_attributes, with_content, Fits, MayWait, MayEnd, MayStand, IsReady, AwaitsThem, Plants, Waits}
+use Rattle.tb_tree.specs.Planting.{with_attributes, with_content, Fits, MayWait, MayEnd, MayStand, IsReady, Plants, Waits}
 use Rattle.tb_tree.specs.View.{plain_of, plains_of}
 use Rattle.tb_tree.specs.declared.draft.Draft.{Draft}
 use Rattle.tb_tree.specs.declared.node.Node.{Node, Elem, Attr, Text}

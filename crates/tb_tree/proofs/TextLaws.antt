@@ -127,7 +127,7 @@ longer_named to told e = record e { to = to; escaped = e.escaped || told }
 
 pub shows-longer_text : (d d' : Draft) (m : Made) (value : List ℕ) (to place : ℕ) (told : Bool) (e : code.Extent) → m.waiting ≡ [] → IsInside m.frames value → d.is_going ≡ true → is_empty_list value ≡ false → Shows d m
     → to ≡ length d'.text.items → place ≡ length d.extents.items - 1 → told ≡ has_escape value
-    → ((front : List ℕ) → d.text.items ≡ front ++ 10 ∷ [] → d'.text.items ≡ (front ++ escaped value) ++ 10 ∷ [])
+    → ((prefix : List ℕ) → d.text.items ≡ prefix ++ 10 ∷ [] → d'.text.items ≡ (prefix ++ escaped value) ++ 10 ∷ [])
     → d'.extents.items ≡ set d.extents.items place (longer_extent (get_or d.extents.items place e) to told)
     → d'.stack.items ≡ d.stack.items → d'.elements ≡ d.elements → d'.attributes ≡ d.attributes → d'.is_going ≡ true → d'.is_waiting ≡ d.is_waiting → d'.has_begun ≡ d.has_begun → d'.waited.items ≡ d.waited.items
     → Shows d' (with_more_text m value)
@@ -139,15 +139,15 @@ shows-longer_text d d' m value to place told e none inside goes some s to_is pla
     let m' = with_more_text m value in
     let text = begun_text m.root m.frames in
     let begun = begun_extents m.root m.frames in
-    let front = text ++ 45 ∷ escaped r in
+    let prefix = text ++ 45 ∷ escaped r in
     let old_text : d.text.items ≡ text ++ data_line r = s.text_is ∙ text-none m none ∙ text-begun m.root m.frames r inside_r running in
-    let line : d.text.items ≡ front ++ 10 ∷ [] = old_text ∙ sym (append_assoc text (45 ∷ escaped r) (10 ∷ [])) in
-    let new_text : d'.text.items ≡ text ++ data_line (r ++ value) = grows front line ∙ line-longer text r value in
+    let line : d.text.items ≡ prefix ++ 10 ∷ [] = old_text ∙ sym (append_assoc text (45 ∷ escaped r) (10 ∷ [])) in
+    let new_text : d'.text.items ≡ text ++ data_line (r ++ value) = grows prefix line ∙ line-longer text r value in
     let at = length text in
     let n = length begun + 1 in
     let level = length m.frames + 1 in
     let long : length d.text.items ≤ length d'.text.items =
-    omega (arith, ap length line, length-append front (10 ∷ []), ap length (grows front line), length-append (front ++ escaped value) (10 ∷ []), length-append front (escaped value)) in
+    omega (arith, ap length line, length-append prefix (10 ∷ []), ap length (grows prefix line), length-append (prefix ++ escaped value) (10 ∷ []), length-append prefix (escaped value)) in
     record {
       text_is = new_text ∙ sym (text-begun m.root m.frames (r ++ value) inside_all (longer r value some)) ∙ sym (text-none m' none);
       extents_are = λ es ns.

@@ -1,5 +1,6 @@
 -- Lists that are joined, and their parts.
-use Rattle.std.proofs.Common.{◌≡◌, ◌-◌, List, [], ◌∷◌, ◌++◌, length, take, refl, ap, ◌∙◌, arith}
+use Rattle.std.proofs.Common.{◌≡◌, ◌+◌, ◌-◌, ◌<◌, List, [], ◌∷◌, ◌++◌, length, take, get_or, refl, sym, ap, ap₂, ◌∙◌, arith, take-append-drop}
+use Rattle.std.proofs.lemmas.List.{drop_more, drop_all}
 use Rattle.std.proofs.Math.Seq.{take-append_seam}
 use Rattle.std.proofs.lemmas.List.{length-append, append_cancel_left}
 
@@ -27,3 +28,9 @@ prefix_is whole before rest e =
     let long = ap length e ∙ length-append before rest in
     let here : length whole - length rest ≡ length before = omega (arith, long) in
     rw (here, e) (take-append_seam before rest)
+
+-- the last element, and those before it
+pub last-split : {X : Type 0} (xs : List X) (x : X) → 0 < length xs → x ≡ get_or xs (length xs - 1) x → xs ≡ take (length xs - 1) xs ++ x ∷ []
+last-split xs x some is =
+    sym (take-append-drop (length xs - 1) xs)
+    ∙ ap (λ l. take (length xs - 1) xs ++ l) (drop_more xs (length xs - 1) x (omega arith) ∙ ap₂ (λ y l. y ∷ l) (sym is) (drop_all (length xs - 1 + 1) xs (omega arith)))

@@ -1,5 +1,5 @@
 -- The bytes are the line, byte 10 and what follows.
-use Rattle.std.proofs.Common.{◌≡◌, length, take, sym, ap, ◌∙◌, arith}
+use Rattle.std.proofs.Common.{◌≡◌, length, take, sym, ◌∙◌, arith}
 use Rattle.std.proofs.lemmas.Slice.Eq.{bytes_eq-Decides}
 use Rattle.std.proofs.lemmas.Bool.{not-true, false≢true}
 use Rattle.tb_tree.proofs.lists.Bools.{denied}

@@ -1,5 +1,5 @@
 -- The parts of an element, one after the other.
-use Rattle.std.proofs.Common.{◌≡◌, ◌+◌, length, ap, sym, subst, refl, arith}
+use Rattle.std.proofs.Common.{length, ap, sym, subst, refl, arith}
 use Rattle.tb_tree.specs.Plain.{one}
 use Rattle.tb_tree.specs.View.{plain_of, plains_of}
 use Rattle.tb_tree.specs.Printed.{end_line}

@@ -1,5 +1,5 @@
 -- An attribute more waits.
-use Rattle.std.proofs.Common.{◌+◌, arith}
+use Rattle.std.proofs.Common.{arith}
 use Rattle.tb_tree.proofs.PlantSteps.{attr-seen, wait-room, wait-more}
 use Rattle.tb_tree.proofs.planting.plant_attributes.Goals as goal
 

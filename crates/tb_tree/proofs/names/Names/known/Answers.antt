@@ -1,5 +1,5 @@
 -- A name that is known has its number alone.
-use Rattle.std.proofs.Common.{◌≡◌, Some, None, sym, ap, ◌∙◌, subst}
+use Rattle.std.proofs.Common.{◌≡◌, Some, None, sym, ◌∙◌, subst}
 use Rattle.tb_tree.specs.NameTables.{IsKnown}
 use Rattle.tb_tree.proofs.NameLaws.{known-alone, known-none}
 use Rattle.tb_tree.proofs.names.Names.known.Goals as goal
