@@ -89,7 +89,7 @@ fn only_text<'a>(text: &'a [u8], extents: &[Extent]) -> Option<(&'a [u8], bool)>
     None
 }
 
-/// Appends what the texts of these extents give.
+/// Appends what the texts of these extents give; no escape in a document's lines is wrong.
 fn push_texts(text: &[u8], extents: &[Extent], value: &mut Vec<u8>) -> Result<(), AllocError>
     ensures { OnOk result ((texts : List (List ℕ)) → told_texts text.now extents.now ≡ map told_piece texts
         → value.new.items ≡ value.old.items ++ concat texts) }

@@ -38,14 +38,12 @@ pub fn extent_at(extents: &[Extent], number: u32) -> Extent
 pub fn own_extents(extents: &[Extent], number: u32) -> &[Extent]
     ensures { result.now ≡ take ((slice_index_or extents.now (number - 1) no_extent).last + 1 - number) (drop (number - 1) extents.now) }
 {
-    let number_from_zero = (number as usize).saturating_sub(1);
-    let count = last_of(&extent_at(extents, number)) + 1;
-    prefix(
-        suffix(extents, number_from_zero),
-        count.saturating_sub(number as usize),
-    )
+    let from_own = suffix(extents, (number as usize).saturating_sub(1));
+    let past = last_of(&extent_at(extents, number)) + 1;
+    prefix(from_own, past.saturating_sub(number as usize))
 }
 
+/// The number of the last node below the extent's, or its own where none is.
 pub fn last_of(extent: &Extent) -> usize
     ensures is { result ≡ extent.now.last }
     ensures fits { result < 2 ^ 32 }
