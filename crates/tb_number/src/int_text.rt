@@ -1,6 +1,7 @@
 //! Integer texts, kept as their sign and digits.
 
-ghost use Rattle.std.specs.Prelude.{◌≡◌, ◌∷◌, ◌++◌, IsTrue, OnOk, OnErr};
+ghost use Rattle.std.specs.Prelude.{◌≡◌, ◌∷◌, ◌++◌, None, ℤ, FitsSigned, IsTrue, OnOk, OnErr};
+ghost use Rattle.std.specs.Int.{w128};
 ghost use Rattle.std.specs.Ordering.{int_cmp};
 ghost use Rattle.std.specs.List.{list_all};
 ghost use Rattle.tb_number.specs.IntText.{is_digit, number_of, signed, Reads};
@@ -56,6 +57,28 @@ impl<'a> IntText<'a> {
             (true, true) => compare_digits(other.digits, self.digits),
             (false, true) => Ordering::Greater,
             (true, false) => Ordering::Less,
+        }
+    }
+
+    /// The order of the number and another one, whatever its length.
+    pub fn compare_to(&self, other: i128) -> Ordering
+        ensures { result ≡ int_cmp self.now other }
+    {
+        match self.in_range() {
+            Some(number) => number.cmp(&other),
+            None => self.side(),
+        }
+    }
+
+    /// Where a number outside the range stands to all that are inside.
+    fn side(&self) -> Ordering
+        ensures { (other : ℤ) → FitsSigned w128 other → within_range self.now ≡ None
+            → result ≡ int_cmp self.now other }
+    {
+        if self.negative {
+            Ordering::Less
+        } else {
+            Ordering::Greater
         }
     }
 
