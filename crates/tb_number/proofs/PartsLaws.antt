@@ -123,7 +123,7 @@ same_parts-Decides x y =
     (λ same. (ap (λ p. p.kind) same, ap (λ p. p.bytes) same))
     (Decides-and (x.kind == y.kind) (bytes_eq x.bytes y.bytes) (Decides-eqb x.kind y.kind) (bytes_eq-Decides x.bytes y.bytes))
 
-is_eq-Decides : (order : Ordering) → Decides (is_eq order) (order ≡ Equal)
+pub is_eq-Decides : (order : Ordering) → Decides (is_eq order) (order ≡ Equal)
 is_eq-Decides Less = (λ e. absurd (let d : ◌≡◌ {A = Bool} false true = e in cc), λ e. absurd (let d : ◌≡◌ {A = Ordering} Less Equal = e in cc))
 is_eq-Decides Equal = (λ e. refl, λ e. refl)
 is_eq-Decides Greater = (λ e. absurd (let d : ◌≡◌ {A = Bool} false true = e in cc), λ e. absurd (let d : ◌≡◌ {A = Ordering} Greater Equal = e in cc))

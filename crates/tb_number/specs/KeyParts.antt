@@ -19,12 +19,20 @@ same_parts a b = a.kind == b.kind && bytes_eq a.bytes b.bytes
 abbrev pub number_kind : Bool → List ℕ → ℕ
 number_kind minus digits = if keeps_minus minus digits then 2 else 1
 
--- the parts of a value, by the digits of its number, or by its bytes where it has none
-abbrev pub value_parts : Bool → List ℕ → Option (List ℕ) → KeyParts
-value_parts minus bytes None = record { kind = 3; bytes = bytes }
-value_parts minus bytes (Some digits) =
+-- the parts of a number with these digits, which may have leading zeros
+abbrev pub number_parts : Bool → List ℕ → KeyParts
+number_parts minus digits =
     let digits = without_zeros digits in
     record { kind = number_kind minus digits; bytes = digits }
+
+-- the parts of another value
+abbrev pub other_parts : List ℕ → KeyParts
+other_parts bytes = record { kind = 3; bytes = bytes }
+
+-- the parts of a value, by the digits of its number, or by its bytes where it has none
+abbrev pub value_parts : Bool → List ℕ → Option (List ℕ) → KeyParts
+value_parts minus bytes None = other_parts bytes
+value_parts minus bytes (Some digits) = number_parts minus digits
 
 -- the parts of a value that is there
 abbrev pub text_parts : List ℕ → KeyParts

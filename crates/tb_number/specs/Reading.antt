@@ -16,6 +16,16 @@ abbrev pub without_sign : List ℕ → List ℕ
 without_sign [] = []
 without_sign (b ∷ bs) = if b == 43 || b == 45 then bs else b ∷ bs
 
+-- how many digits stand behind a sign, those digits, and what is behind them
+abbrev pub signed_digits_len : List ℕ → ℕ
+signed_digits_len bytes = prefix_len is_digit (without_sign bytes)
+
+abbrev pub signed_digits : List ℕ → List ℕ
+signed_digits bytes = take (signed_digits_len bytes) (without_sign bytes)
+
+abbrev pub behind_digits : List ℕ → List ℕ
+behind_digits bytes = drop (signed_digits_len bytes) (without_sign bytes)
+
 -- the digits at the start; none where there is no digit, or another byte than a blank behind them
 abbrev pub leading_digits : List ℕ → Option (List ℕ)
 leading_digits bytes =

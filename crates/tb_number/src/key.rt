@@ -7,7 +7,7 @@ ghost use Rattle.std.specs.Cmp.Rules.{comparing, hashing};
 ghost use Rattle.std.proofs.Common.{rules};
 ghost use Rattle.std.specs.Prelude.{◌++◌, ◌∷◌, []};
 ghost use Rattle.tb_number.specs.Keys.{is_same_key};
-ghost use Rattle.tb_number.specs.KeyParts.{parts_of, text_parts, same_parts, number_kind};
+ghost use Rattle.tb_number.specs.KeyParts.{parts_of, text_parts, number_parts, other_parts, same_parts, number_kind};
 
 use crate::spelling::{
     begins_with_minus, keeps_minus, leading_digits, without_blanks, without_sign, without_zeros,
@@ -86,15 +86,29 @@ impl<'a> Key<'a> {
     {
         let text = without_blanks(bytes);
         let Some(digits) = leading_digits(without_sign(text)) else {
-            return Key {
-                kind: NO_NUMBER,
-                bytes,
-            };
+            return Key::of_bytes(bytes);
         };
+        Key::of_digits(begins_with_minus(text), digits)
+    }
+
+    /// The key of a number, from its digits.
+    pub fn of_digits(minus: bool, digits: &[u8]) -> Key<'_>
+        ensures { result ≡ number_parts minus digits.now }
+    {
         let digits = without_zeros(digits);
         Key {
-            kind: number_kind(begins_with_minus(text), digits),
+            kind: number_kind(minus, digits),
             bytes: digits,
+        }
+    }
+
+    /// The key of a value that is no integer text, from bytes that tell it from others.
+    pub fn of_bytes(bytes: &[u8]) -> Key<'_>
+        ensures { result ≡ other_parts bytes.now }
+    {
+        Key {
+            kind: NO_NUMBER,
+            bytes,
         }
     }
 }

@@ -19,6 +19,7 @@ pub use int_text::IntText;
 pub use key::Key;
 pub use op::CmpOp;
 pub use sort_key::SortKey;
+pub use spelling::signed_digits;
 pub use sum::{Past, RunningSum};
 
 #[cfg(test)]

@@ -5,7 +5,7 @@ ghost use Rattle.std.specs.List.{prefix_len, list_all};
 ghost use Rattle.std.specs.Option.{option_map};
 ghost use Rattle.tb_number.specs.IntText.{is_blank, is_digit};
 ghost use Rattle.tb_number.specs.Reading.{without_blanks, begins_with_minus, without_sign};
-ghost use Rattle.tb_number.specs.Reading.{leading_digits};
+ghost use Rattle.tb_number.specs.Reading.{leading_digits, signed_digits, behind_digits};
 ghost use Rattle.tb_number.specs.Reduced.{without_zeros, keeps_minus};
 
 /// The bytes from the first one on that is no blank.
@@ -50,6 +50,17 @@ pub fn leading_digits(bytes: &[u8]) -> Option<&[u8]>
         return None;
     }
     Some(&bytes[..len])
+}
+
+/// Whether the bytes begin with `-`, the digits behind a sign, and what is behind those.
+pub fn signed_digits(bytes: &[u8]) -> (bool, &[u8], &[u8])
+    ensures minus { result.0 ≡ begins_with_minus bytes.now }
+    ensures digits { result.1.now ≡ signed_digits bytes.now }
+    ensures behind { result.2.now ≡ behind_digits bytes.now }
+{
+    let unsigned = without_sign(bytes);
+    let len = digits_len(unsigned);
+    (begins_with_minus(bytes), &unsigned[..len], &unsigned[len..])
 }
 
 /// The digits from the first one on that is no `0`.
