@@ -1,19 +1,18 @@
 -- The numbers in a document's extents are numbers of its nodes and of its names.
-use Rattle.std.proofs.Common.{◌≡◌, ℕ, zero, suc, ◌+◌, ◌<◌, ◌≤◌, ◌^◌, List, [], ◌∷◌, ◌++◌, length, map, get_or, sym, ap, ◌∙◌, subst, arith, length-append}
+use Rattle.std.proofs.Common.{◌≡◌, ℕ, zero, suc, ◌+◌, ◌<◌, ◌≤◌, ◌^◌, List, [], ◌∷◌, ◌++◌, length, get_or, sym, ap, ◌∙◌, arith}
 use Rattle.std.specs.List.{AllByRecursion}
 use Rattle.std.proofs.lemmas.List.{length-map, get_or-map, get_or_default}
 use Rattle.tb_tree.specs.Plain.{Plain, elem, attr, text, Plains, no_kids, kid, one}
 use Rattle.tb_tree.specs.Numbers.{counts, count}
-use Rattle.tb_tree.specs.Printed.{printed_node, attribute_lines, start_line, attribute_line, data_line}
-use Rattle.tb_tree.specs.Extents.{Extent, element_extent, attribute_extent, text_extent, extents, extents_of, name_in, named}
+use Rattle.tb_tree.specs.Extents.{Extent, text_extent, extents, extents_of, name_in, named}
 use Rattle.tb_tree.specs.FlatTrees.{IsPlaced}
 use Rattle.tb_tree.specs.declared.extent.Extent as code
 use Rattle.tb_tree.specs.declared.extent.Kind.{Kind}
 use Rattle.tb_tree.specs.declared.extent.Kind.TheVariants as kind
-use Rattle.tb_tree.proofs.lists.Alls.{all-append, all-weaker}
+use Rattle.tb_tree.proofs.lists.Alls.{all-append}
 use Rattle.tb_tree.proofs.JoinedLaws.{length-extents}
 use Rattle.tb_tree.proofs.NameLaws.{known-number}
-use Rattle.tb_label.specs.Picked.{IsKnown, IsFit, AreFit}
+use Rattle.tb_label.specs.Picked.{IsKnown, AreFit}
 
 -- the last descendants are among the nodes
 

@@ -1,5 +1,5 @@
 -- What is picked of a document's extents is what is listed of its rows.
-use Rattle.std.proofs.Common.{◌≡◌, ℕ, ◌+◌, ◌-◌, ◌*◌, ◌<◌, Bool, true, false, if◌then◌else◌, List, [], ◌∷◌, ◌++◌, length, map, drop, get_or, refl, sym, ap, ap₂, ◌∙◌, arith, append_assoc, append-nil, length-append}
+use Rattle.std.proofs.Common.{◌≡◌, ℕ, ◌+◌, ◌*◌, ◌<◌, Bool, true, false, if◌then◌else◌, List, [], ◌∷◌, ◌++◌, length, map, drop, get_or, refl, sym, ap, ap₂, ◌∙◌, arith, append_assoc, append-nil, length-append}
 use Rattle.std.specs.List.{filter}
 use Rattle.std.proofs.lemmas.List.{map-append, drop_more}
 use Rattle.std.proofs.lemmas.List.Elements.{filter-append}
@@ -8,7 +8,7 @@ use Rattle.tb_tree.specs.Plain.{Plain, elem, attr, text, Plains, no_kids, kid, o
 use Rattle.tb_tree.specs.Numbers.{counts}
 use Rattle.tb_tree.specs.Meets.{meets}
 use Rattle.tb_tree.specs.Printed.{printed_node, attribute_lines, start_line, attribute_line, data_line}
-use Rattle.tb_tree.specs.Extents.{Extent, element_extent, attribute_extent, text_extent, extents, extents_of, name_in, named}
+use Rattle.tb_tree.specs.Extents.{Extent, extents, name_in, named}
 use Rattle.tb_tree.specs.FlatTrees.{IsPlaced}
 use Rattle.tb_tree.specs.declared.extent.Extent as code
 use Rattle.tb_tree.specs.declared.extent.Kind.TheVariants as kind

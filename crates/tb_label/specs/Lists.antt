@@ -1,5 +1,5 @@
 -- What the lists of a store hold for each name and each test.
-use Rattle.std.specs.Prelude.{ℕ, Bool, true, false, List, [], ◌∷◌, map, slice_index_or, Vec}
+use Rattle.std.specs.Prelude.{ℕ, Bool, true, false, List, [], ◌∷◌, map, slice_index_or}
 use Rattle.std.specs.Option.{option_map_or}
 use Rattle.tb_span.specs.declared.item.Item.{Item}
 use Rattle.tb_tree.specs.NameTables.{number_in}

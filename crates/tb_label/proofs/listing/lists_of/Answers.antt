@@ -1,5 +1,5 @@
 -- One node more is listed.
-use Rattle.std.proofs.Common.{◌≡◌, ℕ, ◌+◌, ◌++◌, [], drop, length, map, ap, sym, ◌∙◌, subst, arith, append-nil}
+use Rattle.std.proofs.Common.{◌++◌, map, ap, sym, ◌∙◌, subst, arith, append-nil}
 use Rattle.std.proofs.lemmas.List.{drop_all}
 use Rattle.tb_tree.specs.NameTables.{IsTable}
 use Rattle.tb_tree.specs.Extents.{named}

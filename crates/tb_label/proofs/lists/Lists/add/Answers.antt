@@ -1,7 +1,6 @@
 -- The tests that an element and an attribute meet.
 use Rattle.std.proofs.Common.{◌≡◌, ◌<◌, ◌++◌, refl, sym, subst, length, arith}
 use Rattle.tb_tree.specs.Extents.{name_in}
-use Rattle.tb_tree.specs.declared.extent.Kind.TheVariants as kind
 use Rattle.tb_label.specs.declared.lists.Lists.{Lists}
 use Rattle.tb_label.specs.Lists.{in_lists, one_if}
 use Rattle.tb_label.specs.Picked.{is_wanted, IsKnown}

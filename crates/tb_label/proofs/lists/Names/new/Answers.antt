@@ -1,5 +1,5 @@
 -- The next name gets the next number, and an empty list.
-use Rattle.std.proofs.Common.{◌≡◌, ℕ, ◌+◌, [], get_or, map, length, ap, sym, ◌∙◌, arith, Vec, Global}
+use Rattle.std.proofs.Common.{◌+◌, [], get_or, map, length, ap, ◌∙◌, Vec, Global}
 use Rattle.std.proofs.lemmas.List.{get_or_read, length_push}
 use Rattle.tb_span.specs.declared.item.Item.{Item}
 use Rattle.tb_label.proofs.NamesLaws.{table-next, empty-more}

@@ -1,10 +1,7 @@
 -- The lists are those of the document.
-use Rattle.std.proofs.Common.{◌≡◌, ℕ, ◌+◌, ◌-◌, ◌*◌, ◌∙◌, refl, arith}
-use Rattle.tb_span.specs.declared.item.Item.{Item}
+use Rattle.std.proofs.Common.{◌≡◌, ◌+◌, ◌*◌, ◌∙◌, refl, arith}
 use Rattle.tb_tree.specs.View.{plain_of}
 use Rattle.tb_tree.specs.Numbers.{count}
-use Rattle.tb_label.specs.Picked.{item_at}
-use Rattle.tb_label.specs.Stores.{document_item_of}
 use Rattle.tb_label.proofs.PickedLaws.{picked-document, same_item}
 use Rattle.tb_label.proofs.FitLaws.{placed-fit, placed-count}
 use Rattle.tb_label.proofs.store.Store.build.Goals as goal
