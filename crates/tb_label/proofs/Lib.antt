@@ -7,4 +7,7 @@ pub mod PickedLaws
 pub mod FitLaws
 pub mod NamesLaws
 pub mod AddLaws
+pub mod PrintedBlankLaws
+pub mod PrintedKeyLaws
+pub mod CompareLaws
 pub mod WorkedRows

@@ -1,5 +1,10 @@
 -- Labels and lists of small documents.
-use Rattle.std.proofs.Common.{◌≡◌, ℕ, [], ◌∷◌, map, refl}
+use Rattle.std.proofs.Common.{◌≡◌, ℕ, true, false, [], ◌∷◌, map, pos, refl}
+use Rattle.std.specs.Prelude.{codes}
+use Rattle.tb_number.specs.Reading.{integer_of}
+use Rattle.tb_number.specs.Values.{stands_to_number, stands_to_bytes, stands_to_value}
+use Rattle.tb_number.specs.declared.op.CmpOp.TheVariants.{Eq, Ne}
+use Rattle.tb_label.specs.PrintedKeys.{printed_parts}
 use Rattle.tb_span.specs.Span.{Span}
 use Rattle.tb_span.specs.declared.item.Item.{Item}
 use Rattle.tb_tree.specs.Plain.{Plain, elem, attr, text, no_kids, kid, one}
@@ -51,3 +56,23 @@ mixed-texts = refl
 
 mixed-fourth : node_at mixed 4 ≡ elem (98 ∷ []) (one (text (121 ∷ [])))
 mixed-fourth = refl
+
+-- Keys by what values print as: a number's is that of its digits, whatever blanks are escaped around it;
+-- a backslash in front of an `n` is no blank.
+pub key-blanks : printed_parts (codes "\t-07\n") ≡ record { kind = 2; bytes = codes "7" }
+key-blanks = refl
+
+pub key-escaped : printed_parts (codes "7\\n") ≡ record { kind = 3; bytes = codes "7\\\\n" }
+key-escaped = refl
+
+-- 01 and 1 are equal as values and differ as bytes; a value that is no number stands to none.
+pub compared-values : stands_to_value Eq (codes "01") (codes "1") ≡ true
+unfolding integer_of
+compared-values = refl
+
+pub compared-bytes : stands_to_bytes Eq (codes "01") (codes "1") ≡ false
+compared-bytes = refl
+
+pub compared-number : stands_to_number Ne (codes "a") (pos 1) ≡ false
+unfolding integer_of
+compared-number = refl
