@@ -53,6 +53,8 @@ const LINES: &[(&[u8], &[u8])] = &[
     (b"(a", b"NotEnded(2)"),
     (b")a", b"WrongEnd(1)"),
     (b"(a\n)b", b"WrongEnd(2)"),
+    (b"(a\n)ab\n)a", b"WrongEnd(2)"),
+    (b"(ab\n)a\n)ab", b"WrongEnd(2)"),
     (b"(a\n)a\n(b", b"SecondRoot(3)"),
     (b"(a b", b"BadName(1)"),
     (b"(\n)", b"BadName(1)"),
@@ -79,6 +81,14 @@ const ATTRIBUTES: &[(&[u8], &[u8])] = &[
     (b"A\x01 IMPLIED\n(a\n)a", b"BadName(1)"),
     (b"Ax CDATA \\\n(a\n)a", b"BadEscape(1)"),
     (b"Ax CDATA 1\nAx CDATA \\\n(a\n)a", b"BadAttribute(2)"),
+    (
+        b"Ax CDATA 1\nAy CDATA 2\nAx CDATA 3\n(a\n)a",
+        b"BadAttribute(3)",
+    ),
+    (
+        b"Ax CDATA 1\n(a\nAx CDATA 2\n(b\n)b\n)a",
+        b"Ax CDATA 1\n(a\nAx CDATA 2\n(b\n)b\n)a\n",
+    ),
     (b"(a\nAx CDATA 1\n)a", b"BadAttribute(3)"),
     (b"(a\nAx CDATA 1\n-y\n)a", b"BadAttribute(3)"),
     (b"(a\nAx CDATA 1\n-\\\n)a", b"BadEscape(3)"),
@@ -168,6 +178,31 @@ fn lines_are_read_as_a_tree_or_have_a_fault(rt: HostRuntime) -> Result<(), Fail>
 fn attributes_wait_for_their_element(rt: HostRuntime) -> Result<(), Fail> {
     let wrong = wrong_row(rt.alloc(), ATTRIBUTES)?;
     assert_eq!(rt; wrong, 0);
+    Ok(())
+}
+
+// What the document prints that is made of a copy of the root, or no byte where the lines have a fault.
+fn made_again(alloc: Global, lines: &[u8]) -> Result<Vec<u8>, AllocError>
+    requires { length lines.now ≤ 67108864 }
+{
+    let Ok(tree) = read_tree(alloc, lines) else {
+        return Ok(Vec::new(alloc));
+    };
+    if tree.text().len() > 67_108_864 {
+        return Ok(Vec::new(alloc));
+    }
+    let node = tree.root(alloc)?;
+    match Tree::of_node(alloc, &node)? {
+        Some(made) => printed(alloc, &made),
+        None => Ok(Vec::new(alloc)),
+    }
+}
+
+#[test]
+fn a_node_is_the_root_of_its_document(rt: HostRuntime) -> Result<(), Fail> {
+    let lines = b"Ax CDATA 1\nAy CDATA \n(a\n-t\nAx CDATA \\n\n(b\n-\\\\\n)b\n(a\n)a\n-u\n)a\n";
+    let made = made_again(rt.alloc(), lines)?;
+    assert_eq!(rt; made.as_slice(), lines.as_slice());
     Ok(())
 }
 
