@@ -1,4 +1,4 @@
--- FIRST: the terminals that parts begin with.
+-- FIRST: the terminals that expressions begin with.
 use Rattle.std.proofs.Common.{◌≡◌, ⊎_elim, ℕ, true, false, List, refl, ap}
 use Rattle.std.proofs.lemmas.Bool.{and_parts, and_from, or_cases}
 use Rattle.tb_token.specs.grammar.Grammar.{Expression, one, both, either, maybe, many, opened}
@@ -6,7 +6,7 @@ use Rattle.tb_token.specs.grammar.Reading.{is_never_empty, first_set_before, fir
 use Rattle.tb_token.specs.grammar.LL1.{all_in, are_apart, is_some, is_ll1}
 use Rattle.tb_token.proofs.grammar.TerminalLaws.{none-true, Within, within-append, within-all_in, all_in-of, apart-within, and-three, and-five}
 
--- what stands behind a part that is not nullable does not tell how it begins
+-- what stands behind an expression that is not nullable does not tell how it begins
 pub first_set_before-never_empty : (p : Expression) (xs ys : List ℕ) → is_never_empty p ≡ true → first_set_before p xs ≡ first_set_before p ys
 first_set_before-never_empty (one c) xs ys never_empty = refl
 first_set_before-never_empty (both p q) xs ys never_empty =
@@ -20,7 +20,7 @@ first_set_before-never_empty (maybe p) xs ys never_empty = none-true false refl 
 first_set_before-never_empty (many p) xs ys never_empty = none-true false refl never_empty
 first_set_before-never_empty (opened c n) xs ys never_empty = refl
 
--- more terminals behind a part are more terminals in all
+-- more terminals behind an expression are more terminals in all
 pub first_set_before-within : (p : Expression) (xs ys : List ℕ) → Within xs ys → Within (first_set_before p xs) (first_set_before p ys)
 first_set_before-within (one c) xs ys within = λ x is. is
 first_set_before-within (both p q) xs ys within = first_set_before-within p (first_set_before q xs) (first_set_before q ys) (first_set_before-within q xs ys within)
@@ -30,7 +30,7 @@ first_set_before-within (many p) xs ys within = within-append (first_set_before 
 first_set_before-within (opened c n) xs ys within = λ x is. is
 
 module _ (follow : ℕ → List ℕ) where
-  -- a part is LL(1) where fewer terminals may stand behind it
+  -- an expression is LL(1) where fewer terminals may stand behind it
   pub ll1-within : (p : Expression) (xs ys : List ℕ) → Within xs ys → is_ll1 follow ys p ≡ true → is_ll1 follow xs p ≡ true
   ll1-within (one c) xs ys within is = is
   ll1-within (both p q) xs ys within is =

@@ -1,4 +1,4 @@
--- Readers of parts, joined to readers of larger parts.
+-- Readers of expressions, joined to readers of larger expressions.
 use Rattle.std.proofs.Common.{◌≡◌, ℕ, ◌+◌, ◌-◌, ◌<◌, ◌≤◌, Bool, true, false, cond, ◌&&◌, ◌||◌, List, [], ◌∷◌, ◌++◌, length, drop, Option, Some, None, refl, ap, ◌∙◌, arith, length-drop}
 use Rattle.std.proofs.lemmas.Bool.{or_parts}
 use Rattle.std.proofs.lemmas.List.{drop_all}
@@ -11,7 +11,7 @@ use Rattle.tb_token.specs.grammar.Places.{Stands, Stops, IsAt, chain, Repeats}
 use Rattle.tb_token.proofs.grammar.TerminalLaws.{none-true, has-left, has-right}
 use Rattle.tb_token.proofs.grammar.ReadLaws.{takes-never_empty, read-wrong}
 
--- A terminal that no sentence of the part begins with, or none of what may follow where it may be empty.
+-- A terminal that no sentence of the expression begins with, or none of what may follow where it may be empty.
 
 not-left : (xs ys : List ℕ) (x : ℕ) → has (xs ++ ys) x ≡ false → has xs x ≡ false
 not-left xs ys x none = by (has xs x) refl
@@ -27,7 +27,7 @@ not-right xs ys x none = by (has ys x) refl
     by true e = none-true (has (xs ++ ys) x) none (has-right xs ys x e)
     by false e = refl
 
--- what may follow a part that may be empty is in its FIRST
+-- what may follow an expression that may be empty is in its FIRST
 first_set_before-behind : (p : Expression) (xs : List ℕ) (x : ℕ) → is_never_empty p ≡ false → has (first_set_before p xs) x ≡ false → has xs x ≡ false
 first_set_before-behind (one c) xs x empty none = none-true true empty refl
 first_set_before-behind (both p q) xs x empty none =
@@ -67,7 +67,7 @@ module _ (rules : Rules) where
       rw here (cond-same (has (first_set p) x) None)
   takes-none (opened c n) xs x ps none = rw none refl
 
-  -- How the reading of a part is that of its parts.
+  -- How the reading of an expression is that of its expressions.
 
   pub read-end : (p : Expression) (ps : List Expression) → is_never_empty p ≡ true → read rules [] (Some (p ∷ ps)) ≡ Some 0
   read-end p ps never_empty = rw never_empty refl
@@ -129,7 +129,7 @@ chain-append : (vs us : List Tree) (w : Tree) → chain (vs ++ us) w ≡ chain v
 chain-append [] us w = refl
 chain-append (v ∷ vs) us w = ap (λ u. pair v u) (chain-append vs us w)
 
--- Readers of parts, joined.
+-- Readers of expressions, joined.
 
 module _ (rules : Rules) (s : List Tok) where
   here-within : (at : ℕ) (t : Tok) → IsAt s at t → at < length s
@@ -152,7 +152,7 @@ module _ (rules : Rules) (s : List Tok) where
     made = λ ps vs w. rw here (by_one h w);
   }
 
-  -- a part that is not nullable stops at a token that it does not begin with
+  -- an expression that is not nullable stops at a token that it does not begin with
   pub never_empty-stops : (p : Expression) (at : ℕ) (t : Tok) → is_never_empty p ≡ true → IsAt s at t → has (first_set p) t.terminal ≡ false → Stops rules s p at at
   never_empty-stops p at t never_empty here none =
       let within = here-within at t here in

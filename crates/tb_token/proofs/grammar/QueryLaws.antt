@@ -34,7 +34,7 @@ first-tree v w e = cc
 pub one-query : AreOneQuery
 one-query s v w d e = first-tree v w (one-tree rules follow readable.good readable.queries d e)
 
--- Whatever stands behind: the prefix may begin with more of a part, or be left alone.
+-- Whatever stands behind: the prefix may begin with more of an expression, or be left alone.
 
 module _ (rules : Rules) (p q : Expression) (c : List ℕ) (ps : List Expression) where
   abbrev LL1 : List Tok → Type 0

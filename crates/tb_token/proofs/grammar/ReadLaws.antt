@@ -26,7 +26,7 @@ if-cases false o u y e = inr (refl, e)
 -- What the reading takes, sentences take.
 
 module _ (rules : Rules) (t : Tok) (s : List Tok) where
-  -- from what is still to come once the parts have taken the token, the rest is a sentence
+  -- from what is still to come once the expressions have taken the token, the rest is a sentence
   abbrev Leads : Option (List Expression) → List Expression → Type 0
   Leads o ps = (hs : List Expression) → o ≡ Some hs → AreSentence rules hs s → AreSentence rules ps (t ∷ s)
 
@@ -62,7 +62,7 @@ module _ (rules : Rules) (t : Tok) (s : List Tok) where
   after-leads [] = none-leads []
   after-leads (p ∷ ps) = takes-leads p ps (after rules ps t.terminal) (after-leads ps)
 
--- what a part that is not nullable takes does not depend on what is behind it
+-- what an expression that is not nullable takes does not depend on what is behind it
 pub takes-never_empty : (rules : Rules) (p : Expression) (x : ℕ) (ps : List Expression) (o u : Option (List Expression)) → is_never_empty p ≡ true → takes rules p x ps o ≡ takes rules p x ps u
 takes-never_empty rules (one c) x ps o u never_empty = refl
 takes-never_empty rules (both p q) x ps o u never_empty =

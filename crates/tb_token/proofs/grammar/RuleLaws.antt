@@ -5,7 +5,7 @@ use Rattle.std.proofs.lemmas.Bool.{and_parts}
 use Rattle.tb_token.specs.grammar.Grammar.{Tok, Expression, one, both, either, maybe, many, opened, Rules}
 use Rattle.tb_token.specs.grammar.Sentences.{Tree, Derives, at_end, by_one, by_both, by_first, by_second, left_out, put_in, no_more, one_more, by_rule, AreSentence, IsWrongAt}
 
--- the part calls such rules alone
+-- the expression calls such rules alone
 abbrev pub calls : (ℕ → Bool) → Expression → Bool
 calls may (one c) = true
 calls may (both p q) = calls may p && calls may q
@@ -14,7 +14,7 @@ calls may (maybe p) = calls may p
 calls may (many p) = calls may p
 calls may (opened c n) = may n
 
--- each of the parts does
+-- each of the expressions does
 abbrev pub Call : (ℕ → Bool) → List Expression → Type 0
 Call may [] = ⊤
 Call may (p ∷ ps) = IsTrue (calls may p) × Call may ps

@@ -1,4 +1,4 @@
--- What the first token of a sentence is, and that each list of parts has a sentence.
+-- What the first token of a sentence is, and that each list of expressions has a sentence.
 use Rattle.std.proofs.Common.{◌≡◌, ⊎_elim, ℕ, Bool, true, false, cond, ◌&&◌, List, [], ◌∷◌, length, suc, refl, ap, arith}
 use Rattle.std.proofs.lemmas.Bool.{and_parts, or_cases, or_parts, and_cases}
 use Rattle.tb_token.specs.grammar.Grammar.{Tok, Expression, one, both, either, maybe, many, opened, Rules, has}
@@ -9,7 +9,7 @@ use Rattle.tb_token.proofs.grammar.TerminalLaws.{none-true, has-left, has-right,
 use Rattle.tb_token.proofs.grammar.FirstLaws.{first_set_before-never_empty, ll1-within}
 
 module _ (rules : Rules) (follow : ℕ → List ℕ) (good : AreGood rules follow) where
-  -- What stands on top of an LL(1) list once its first part is taken apart, is LL(1).
+  -- What stands on top of an LL(1) list once its first expression is taken apart, is LL(1).
 
   pub both-ll1 : (p q : Expression) (ps : List Expression) → AreLL1 follow (both p q ∷ ps) → AreLL1 follow (p ∷ q ∷ ps)
   both-ll1 p q ps d =
@@ -56,7 +56,7 @@ module _ (rules : Rules) (follow : ℕ → List ℕ) (good : AreGood rules follo
       let parts = and-three (is_never_empty p) (are_apart (first_set p) (first_set_of_all ps)) (is_ll1 follow (first_set_before (many p) (first_set_of_all ps)) p) d.0 in
       (parts.0, parts.1)
 
-  -- the first token's terminal is one that the parts begin with
+  -- the first token's terminal is one that the expressions begin with
   pub sentence-first_set_before : {ps : List Expression} {vs : List Tree} {t : Tok} {s : List Tok} → AreLL1 follow ps → Derives rules ps vs (t ∷ s) → has (first_set_of_all ps) t.terminal ≡ true
   sentence-first_set_before d (by_one h w) = h
   sentence-first_set_before d (by_both {p = p} {q = q} {ps = ps} w) = sentence-first_set_before (both-ll1 p q ps d) w
@@ -75,13 +75,13 @@ module _ (rules : Rules) (follow : ℕ → List ℕ) (good : AreGood rules follo
       has-left (first_set_before p (first_set_of_all ps)) (first_set_of_all ps) t.terminal (rw same at (sentence-first_set_before (many-ll1 p ps d) w))
   sentence-first_set_before d (by_rule h w) = h
 
-  -- the first token of a part that is not nullable is its own
+  -- the first token of an expression that is not nullable is its own
   pub first_set-first_set_before : {p : Expression} {ps : List Expression} {vs : List Tree} {t : Tok} {s : List Tok} → AreLL1 follow (p ∷ ps) → is_never_empty p ≡ true → Derives rules (p ∷ ps) vs (t ∷ s) → has (first_set p) t.terminal ≡ true
   first_set-first_set_before {p = p} {ps = ps} d never_empty w =
       let same = first_set_before-never_empty p (first_set_of_all ps) [] never_empty in
       rw same at (sentence-first_set_before d w)
 
--- no token at all is a sentence only where the parts may end
+-- no token at all is a sentence only where the expressions may end
 
 ends-prefix : (p : Expression) (ps : List Expression) → may_end (p ∷ ps) ≡ true → (is_never_empty p ≡ false) × (may_end ps ≡ true)
 ends-prefix p ps is = by (is_never_empty p) (may_end ps) is
@@ -110,11 +110,11 @@ none-ends (put_in {p = p} {ps = ps} w) = ends-from (maybe p) ps refl (ends-prefi
 none-ends (no_more {p = p} {ps = ps} w) = ends-from (many p) ps refl (none-ends w)
 none-ends (one_more {p = p} {ps = ps} w) = ends-from (many p) ps refl (ends-prefix (many p) ps (ends-prefix p (many p ∷ ps) (none-ends w)).1).1
 
--- a part that is not nullable takes a token
+-- an expression that is not nullable takes a token
 pub never_empty-takes : {rules : Rules} {p : Expression} {ps : List Expression} {vs : List Tree} → is_never_empty p ≡ true → Derives rules (p ∷ ps) vs [] → ⊥
 never_empty-takes {p = p} {ps = ps} never_empty w = none-true (is_never_empty p) (ends-prefix p ps (none-ends w)).0 never_empty
 
--- each part has its tree
+-- each expression has its tree
 pub trees-length : {rules : Rules} {ps : List Expression} {vs : List Tree} {s : List Tok} → Derives rules ps vs s → length vs ≡ length ps
 trees-length at_end = refl
 trees-length (by_one h w) = ap suc (trees-length w)
@@ -201,7 +201,7 @@ module _ (rules : Rules) where
       let is = ends-prefix p ps ends in
       sentence-empty p ps [] is.0 (none-sentence ps is.1)
 
--- Each list of LL(1) parts has a sentence.
+-- Each list of LL(1) expressions has a sentence.
 
 module _ (rules : Rules) (follow : ℕ → List ℕ) (good : AreGood rules follow) where
   abbrev HasSentence : List Expression → Type 0

@@ -30,7 +30,7 @@ module _ (rules : Rules) (follow : ℕ → List ℕ) (good : AreGood rules follo
       let there = first_set-first_set_before rules follow good (second-ll1 rules follow good p q ps d) never_empty.1 two_is in
       none-true (has (first_set q) t.terminal) (apart-none (first_set p) (first_set q) t.terminal never_empty.2 here) there
 
-  -- nor do a part and what is behind it
+  -- nor do an expression and what is behind it
   apart-by : {p : Expression} {ps qs : List Expression} {vs ws : List Tree} (s : List Tok) → AreLL1 follow (p ∷ qs) → AreLL1 follow ps → is_never_empty p ≡ true → are_apart (first_set p) (first_set_of_all ps) ≡ true
       → Derives rules (p ∷ qs) vs s → Derives rules ps ws s → ⊥
   apart-by [] d e never_empty apart one_is two_is = never_empty-takes never_empty one_is

@@ -38,6 +38,6 @@ read-wrong = refl
 pub read-early : read rules (toks (1 ∷ 4 ∷ 3 ∷ [])) (Some (nested ∷ [])) ≡ Some 0
 read-early = refl
 
--- a choice of two parts that begin alike is not LL(1)
+-- a choice of two expressions that begin alike is not LL(1)
 pub alike-not_ll1 : is_ll1 follow [] (either (both (one (4 ∷ [])) (one (3 ∷ []))) (one (4 ∷ []))) ≡ false
 alike-not_ll1 = refl

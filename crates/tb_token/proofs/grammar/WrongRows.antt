@@ -11,7 +11,7 @@ use Rattle.tb_token.specs.grammar.Queries.{rules, follow, query}
 use Rattle.tb_token.proofs.grammar.QueryLaws.{readable}
 use Rattle.tb_token.proofs.grammar.QueryRows.{toks, wrong_at}
 
--- the terminals that a part names
+-- the terminals that an expression names
 abbrev terminals : Expression → List ℕ
 terminals (one c) = c
 terminals (both p q) = terminals p ++ terminals q

@@ -1,4 +1,4 @@
--- What a part begins with, by whether it may be empty.
+-- What an expression begins with, by whether it may be empty.
 use Rattle.std.proofs.Common.{◌≡◌, ℕ, Bool, true, false, not, ◌&&◌, ◌||◌, refl}
 use Rattle.tb_token.specs.grammar.Grammar.{Expression, one, both, either, maybe, many, opened, has}
 use Rattle.tb_token.specs.grammar.Reading.{is_never_empty}
@@ -8,7 +8,7 @@ or-none : (a : Bool) → a ≡ (a || false)
 or-none true = refl
 or-none false = refl
 
--- Below, a and b say whether a part begins with the terminal, f and g whether it is never empty.
+-- Below, a and b say whether an expression begins with the terminal, f and g whether it is never empty.
 
 in_turn : (a f b g c : Bool) → (a || (not f && (b || (not g && c)))) ≡ ((a || (not f && b)) || (not (f || g) && c))
 in_turn true f b g c = refl
@@ -31,7 +31,7 @@ in_option false true c = refl
 in_option false false true = refl
 in_option false false false = refl
 
--- What stands behind a part matters where the part may be empty.
+-- What stands behind an expression matters where the expression may be empty.
 pub begins-behind : (p : Expression) (x : ℕ) (c : Bool) → begins_by p x c ≡ (begins_by p x false || (not (is_never_empty p) && c))
 begins-behind (one l) x c = or-none (has l x)
 begins-behind (both p q) x c =

@@ -10,7 +10,7 @@ use Rattle.tb_token.specs.reading.View.{expression_of, rules_of}
 use Rattle.tb_token.specs.declared.reader.expression.Grammar.{Grammar}
 
 module _ (rules : Rules) (p : Expression) (s : List Tok) where
-  -- before the token of a place these parts are still to come
+  -- before the token of a place these expressions are still to come
   abbrev pub Going : ℕ → List Expression → Type 0
   Going at ps = read rules (drop at s) (Some ps) ≡ read rules s (Some (p ∷ []))
 
@@ -45,6 +45,6 @@ module _ (rules : Rules) (p : Expression) (s : List Tok) where
     pub wrong-end : may_end ps ≡ false → IsFirstWrong rules p s (Some (length s + 1))
     wrong-end e = wrong-at 0 (length s + 1) (sym read-end ∙ ap (λ b. cond b None (Some 0)) e) (omega arith) (omega arith)
 
--- whatever rules and part the value is
+-- whatever rules and expression the value is
 pub as-said : (g : Grammar) (s : List Tok) (wrong : Option ℕ) → IsFirstWrong (rules_of g) (expression_of g.start.now) s wrong → IsRead g s wrong
 as-said g s wrong is rules p says = rw (fun_ext says.each_rule, says.start_is) at is

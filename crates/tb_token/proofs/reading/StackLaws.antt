@@ -1,4 +1,4 @@
--- What the parts that are still to come do with a terminal, and at the end.
+-- What the expressions that are still to come do with a terminal, and at the end.
 use Rattle.std.proofs.Common.{◌≡◌, ℕ, true, false, cond, ◌&&◌, List, [], ◌∷◌, ◌++◌, Some, None, sym, ap, ◌∙◌}
 use Rattle.std.specs.Borrow.{Bor}
 use Rattle.tb_token.specs.grammar.Grammar.{Rules}

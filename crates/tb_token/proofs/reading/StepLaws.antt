@@ -22,7 +22,7 @@ has-append (y ∷ xs) ys x = ap (λ b. y == x || b) (has-append xs ys x) ∙ by 
     by true b c = refl
     by false b c = refl
 
--- a part begins with the terminal where it is in its FIRST
+-- an expression begins with the terminal where it is in its FIRST
 pub begins-first_set_before : (p : grammar.Expression) (xs : List ℕ) (x : ℕ) → begins_by p x (has xs x) ≡ has (first_set_before p xs) x
 begins-first_set_before (one c) xs x = refl
 begins-first_set_before (both p q) xs x = ap (λ b. begins_by p x b) (begins-first_set_before q xs x) ∙ begins-first_set_before p (first_set_before q xs) x
@@ -55,7 +55,7 @@ behind-cond true s t ps other = refl
 behind-cond false s t ps other = refl
 
 module _ (rules : Rules) (x : ℕ) where
-  -- a step is what the part takes
+  -- a step is what the expression takes
   pub step-takes : (p : grammar.Expression) (ps : List grammar.Expression) (other : Option (List grammar.Expression)) → behind (step rules p x) ps other ≡ takes rules p x ps other
   step-takes (one c) ps other = behind-cond (has c x) (taken []) stuck ps other
   step-takes (both p q) ps other =

@@ -1,4 +1,4 @@
--- What a part leaves on the stack.
+-- What an expression leaves on the stack.
 use Rattle.std.proofs.Common.{◌≡◌, ◌<◌, ℕ, true, false, List, [], ◌∷◌, ◌++◌, length, drop, get_or, Option, Some, None, refl, sym, ap, ◌∙◌, append_assoc, arith, length-append}
 use Rattle.std.specs.Prelude.{IsSome, option_to_list}
 use Rattle.std.specs.Borrow.{Bor}
@@ -9,24 +9,24 @@ use Rattle.tb_token.specs.reading.View.{expression_of}
 use Rattle.tb_token.specs.reading.Machine.{begins_by, Step, taken, passed, stuck, or_else, step}
 use Rattle.tb_token.specs.reading.Stack.{expressions_in, HasTaken, is_passed, of_more}
 use Rattle.tb_token.specs.declared.reader.expression.Expression.{Expression}
-use Rattle.tb_token.specs.declared.reader.expression.Expression.TheVariants as part
+use Rattle.tb_token.specs.declared.reader.expression.Expression.TheVariants as expression
 use Rattle.tb_token.specs.declared.reader.take.Took.{Took}
 use Rattle.tb_token.specs.declared.reader.take.Took.TheVariants as took
 use Rattle.tb_token.proofs.reading.Views.{expression_of-Both, expression_of-Many, expression_of-Opened}
 use Rattle.tb_token.proofs.reading.StepLaws.{expressions_in-push}
 
 module _ (rules : Rules) (x : ℕ) (whole : Expression) where
-  pub step-both : (p q : Bor Expression) → whole ≡ part.Both p q
+  pub step-both : (p q : Bor Expression) → whole ≡ expression.Both p q
       → step rules (expression_of whole) x ≡ or_else (step rules (expression_of p.now) x) (expression_of q.now) (step rules (expression_of q.now) x)
   step-both p q e = ap (λ w. step rules (expression_of w) x) e ∙ ap (λ w. step rules w x) (expression_of-Both p q)
 
-  pub step-many : (p : Bor Expression) → whole ≡ part.Many p → begins_by (expression_of p.now) x false ≡ true
+  pub step-many : (p : Bor Expression) → whole ≡ expression.Many p → begins_by (expression_of p.now) x false ≡ true
       → step rules (expression_of whole) x ≡ or_else (step rules (expression_of p.now) x) (expression_of whole) stuck
   step-many p e begun =
       let same : expression_of whole ≡ grammar.many (expression_of p.now) = ap (λ w. expression_of w) e ∙ expression_of-Many p in
       rw (same, begun) refl
 
-  pub step-opened : (cs : Bor (List ℕ)) (n : ℕ) → whole ≡ part.Opened cs n → has cs.now x ≡ true → step rules (expression_of whole) x ≡ taken (rules n ∷ [])
+  pub step-opened : (cs : Bor (List ℕ)) (n : ℕ) → whole ≡ expression.Opened cs n → has cs.now x ≡ true → step rules (expression_of whole) x ≡ taken (rules n ∷ [])
   step-opened cs n e here =
       let same : expression_of whole ≡ grammar.opened cs.now n = ap (λ w. expression_of w) e ∙ expression_of-Opened cs n in
       rw (same, here) refl
@@ -35,7 +35,7 @@ module _ (before pushed now : List (Bor Expression)) (q : Bor Expression) (push 
   over : (ps : List grammar.Expression) → expressions_in now ≡ ps ++ expressions_in pushed → expressions_in now ≡ (ps ++ expression_of q.now ∷ []) ++ expressions_in before
   over ps e = e ∙ ap (λ l. ps ++ l) (ap expressions_in push ∙ expressions_in-push before q) ∙ sym (append_assoc ps (expression_of q.now ∷ []) (expressions_in before))
 
-  -- what was pushed stays below what the part leaves
+  -- what was pushed stays below what the expression leaves
   pub taken-first : (s t : Step) (k : Took) → HasTaken s pushed now k → is_passed k ≡ false → HasTaken (or_else s (expression_of q.now) t) before now k
   taken-first s t took.Taken (ps, is, left) e = (ps ++ expression_of q.now ∷ [], ap (λ w. or_else w (expression_of q.now) t) is, over ps left)
   taken-first s t took.Passed is e = none-true true e refl

@@ -17,9 +17,9 @@ pub data Expression : Type 0 where
   both : Expression → Expression → Expression
   -- the first or the second
   either : Expression → Expression → Expression
-  -- the part, or nothing
+  -- the expression, or nothing
   maybe : Expression → Expression
-  -- the part any number of times
+  -- the expression any number of times
   many : Expression → Expression
   -- one token whose terminal is among these, and behind it what the rule of this number says
   opened : List ℕ → ℕ → Expression
@@ -33,12 +33,12 @@ abbrev pub has : List ℕ → ℕ → Bool
 has [] x = false
 has (c ∷ cs) x = c == x || has cs x
 
--- the parts one after the other
+-- the expressions one after the other
 abbrev pub row : Expression → List Expression → Expression
 row p [] = p
 row p (q ∷ qs) = both p (row q qs)
 
--- one of the parts
+-- one of the expressions
 abbrev pub one_of : Expression → List Expression → Expression
 one_of p [] = p
 one_of p (q ∷ qs) = either p (one_of q qs)

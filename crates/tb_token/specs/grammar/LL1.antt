@@ -17,14 +17,14 @@ abbrev pub is_some : List ℕ → Bool
 is_some [] = false
 is_some (c ∷ cs) = true
 
--- FIRST of the parts one after the other
+-- FIRST of the expressions one after the other
 abbrev pub first_set_of_all : List Expression → List ℕ
 first_set_of_all [] = []
 first_set_of_all (p ∷ ps) = first_set_before p (first_set_of_all ps)
 
--- Whether the next terminal tells how to read the part, where `behind` may stand behind it and
--- `follow n` behind what rule n says. Each choice is between parts that begin apart, or between a
--- part and what is behind it, and a part that may be left out is never empty by itself.
+-- Whether the next terminal tells how to read the expression, where `behind` may stand behind it and
+-- `follow n` behind what rule n says. Each choice is between expressions that begin apart, or between a
+-- expression and what is behind it, and an expression that may be left out is never empty by itself.
 abbrev pub is_ll1 : (ℕ → List ℕ) → List ℕ → Expression → Bool
 is_ll1 follow behind (one c) = is_some c
 is_ll1 follow behind (both p q) =
@@ -38,13 +38,13 @@ is_ll1 follow behind (many p) =
     is_never_empty p && are_apart (first_set p) behind && is_ll1 follow (first_set_before (many p) behind) p
 is_ll1 follow behind (opened c n) = is_some c && all_in behind (follow n)
 
--- each part is LL(1) before what is behind it
+-- each expression is LL(1) before what is behind it
 abbrev pub AreLL1 : (ℕ → List ℕ) → List Expression → Type 0
 AreLL1 follow [] = ⊤
 AreLL1 follow (p ∷ ps) =
     IsTrue (is_ll1 follow (first_set_of_all ps) p) × AreLL1 follow ps
 
--- the part has a sentence in which no rule is called
+-- the expression has a sentence in which no rule is called
 abbrev pub is_easy : Expression → Bool
 is_easy (one c) = true
 is_easy (both p q) = is_easy p && is_easy q

@@ -27,7 +27,7 @@ IsWrongOnce =
     (rules : Rules) (ps : List Expression) (s : List Tok) (k j : ℕ)
     → IsWrongAt rules ps s k → IsWrongAt rules ps s j → k ≡ j
 
--- where a reader of a list stops, or has read the part and tokens are left, the list is wrong
+-- where a reader of a list stops, or has read the expression and tokens are left, the list is wrong
 -- there; where it has read all tokens, they are a sentence with its tree
 pub record PlacesAreRight (rules : Rules) (p : Expression) (s : List Tok) : Type 0 where
   pub stopped : (bad : ℕ) → Stops rules s p 0 bad → IsWrongAt rules (p ∷ []) s (bad + 1)

@@ -1,11 +1,11 @@
--- What a reader of one part promises, at a place of the list of tokens from 0. It speaks of any
--- parts that may stand behind, so readers of parts are joined without a word on what follows them.
+-- What a reader of one expression promises, at a place of the list of tokens from 0. It speaks of any
+-- expressions that may stand behind, so readers of expressions are joined without a word on what follows them.
 use Rattle.std.specs.Prelude.{◌≡◌, ℕ, ◌+◌, ◌-◌, ◌≤◌, List, [], ◌∷◌, length, drop, Some}
 use Rattle.tb_token.specs.grammar.Grammar.{Tok, Expression, many, Rules}
 use Rattle.tb_token.specs.grammar.Sentences.{Tree, pair, Derives}
 use Rattle.tb_token.specs.grammar.Reading.{read}
 
--- the part stands from one place up to the next, and this is its tree
+-- the expression stands from one place up to the next, and this is its tree
 pub record Stands (rules : Rules) (s : List Tok) (p : Expression) (at next : ℕ) (v : Tree) : Type 0 where
   pub from : at ≤ next
   pub to : next ≤ length s
@@ -14,7 +14,7 @@ pub record Stands (rules : Rules) (s : List Tok) (p : Expression) (at next : ℕ
   pub made : (ps : List Expression) (vs : List Tree) → Derives rules ps vs (drop next s)
       → Derives rules (p ∷ ps) (v ∷ vs) (drop at s)
 
--- the part does not stand at the place: the reading stops at the token of place `bad`, or the end
+-- the expression does not stand at the place: the reading stops at the token of place `bad`, or the end
 pub record Stops (rules : Rules) (s : List Tok) (p : Expression) (at bad : ℕ) : Type 0 where
   pub from : at ≤ bad
   pub to : bad ≤ length s
@@ -29,7 +29,7 @@ abbrev pub chain : List Tree → Tree → Tree
 chain [] w = w
 chain (v ∷ vs) w = pair v (chain vs w)
 
--- the part stands so often from one place up to the next, and a repetition of it goes on there
+-- the expression stands so often from one place up to the next, and a repetition of it goes on there
 pub record Repeats (rules : Rules) (s : List Tok) (p : Expression) (at next : ℕ) (vs : List Tree)
     : Type 0 where
   pub from : at ≤ next

@@ -1,8 +1,8 @@
--- Reading with one token of look-ahead, by the parts that are still to come. It never goes back.
+-- Reading with one token of look-ahead, by the expressions that are still to come. It never goes back.
 use Rattle.std.specs.Prelude.{ℕ, ◌+◌, Bool, true, false, ◌&&◌, ◌||◌, if◌then◌else◌, List, [], ◌∷◌, ◌++◌, length, Option, Some, None}
 use Rattle.tb_token.specs.grammar.Grammar.{Tok, Expression, one, both, either, maybe, many, opened, Rules, has}
 
--- the part has a token in it, whatever sentence of it is taken: it is not nullable
+-- the expression has a token in it, whatever sentence of it is taken: it is not nullable
 abbrev pub is_never_empty : Expression → Bool
 is_never_empty (one c) = true
 is_never_empty (both p q) = is_never_empty p || is_never_empty q
@@ -11,12 +11,12 @@ is_never_empty (maybe p) = false
 is_never_empty (many p) = false
 is_never_empty (opened c n) = true
 
--- no part is left that has a token in it
+-- no expression is left that has a token in it
 abbrev pub may_end : List Expression → Bool
 may_end [] = true
 may_end (p ∷ ps) = (if is_never_empty p then false else true) && may_end ps
 
--- FIRST of the part before what may begin with these terminals
+-- FIRST of the expression before what may begin with these terminals
 abbrev pub first_set_before : Expression → List ℕ → List ℕ
 first_set_before (one c) behind = c
 first_set_before (both p q) behind = first_set_before p (first_set_before q behind)
@@ -25,11 +25,11 @@ first_set_before (maybe p) behind = first_set_before p behind ++ behind
 first_set_before (many p) behind = first_set_before p behind ++ behind
 first_set_before (opened c n) behind = c
 
--- FIRST of the part: the terminals that it begins with
+-- FIRST of the expression: the terminals that it begins with
 abbrev pub first_set : Expression → List ℕ
 first_set p = first_set_before p []
 
--- What is still to come once the part, with these behind it, has taken the terminal. A part that
+-- What is still to come once the expression, with these behind it, has taken the terminal. An expression that
 -- takes nothing leaves the terminal to what is behind it, which is the last argument.
 abbrev pub takes : Rules → Expression → ℕ → List Expression → Option (List Expression) → Option (List Expression)
 takes rules (one c) x ps else_by = if has c x then Some ps else None
@@ -42,7 +42,7 @@ takes rules (many p) x ps else_by =
     if has (first_set p) x then takes rules p x (many p ∷ ps) None else else_by
 takes rules (opened c n) x ps else_by = if has c x then Some (rules n ∷ ps) else None
 
--- what is still to come once these parts have taken the terminal, or none where they cannot go on
+-- what is still to come once these expressions have taken the terminal, or none where they cannot go on
 abbrev pub after : Rules → List Expression → ℕ → Option (List Expression)
 after rules [] x = None
 after rules (p ∷ ps) x = takes rules p x ps (after rules ps x)

@@ -11,7 +11,7 @@ pub data Tree : Type 0 where
   first : Tree → Tree
   second : Tree → Tree
 
--- The tokens are these parts one after the other, and these are the trees of the parts: the part
+-- The tokens are these expressions one after the other, and these are the trees of the expressions: the expression
 -- that stands first is taken apart until it is a token.
 pub data Derives (rules : Rules) : List Expression → List Tree → List Tok → Type 0 where
   at_end : Derives rules [] [] []
@@ -44,15 +44,15 @@ pub data Derives (rules : Rules) : List Expression → List Tree → List Tok �
       → IsTrue (has c t.terminal) → Derives rules (rules n ∷ ps) (v ∷ vs) s
       → Derives rules (opened c n ∷ ps) (pair (leaf t) v ∷ vs) (t ∷ s)
 
--- the tokens are the parts
+-- the tokens are the expressions
 abbrev pub AreSentence : Rules → List Expression → List Tok → Type 0
 AreSentence rules ps s = (vs : List Tree) × Derives rules ps vs s
 
--- the tokens, and perhaps more behind them, are the parts
+-- the tokens, and perhaps more behind them, are the expressions
 abbrev pub Begin : Rules → List Expression → List Tok → Type 0
 Begin rules ps s = (more : List Tok) × AreSentence rules ps (s ++ more)
 
--- The tokens are not the parts, and k is the least number for which the first k tokens do not begin
+-- The tokens are not the expressions, and k is the least number for which the first k tokens do not begin
 -- them; where all tokens begin them, k is one more than there are.
 pub record IsWrongAt (rules : Rules) (ps : List Expression) (s : List Tok) (k : ℕ) : Type 0 where
   pub some : 0 < k

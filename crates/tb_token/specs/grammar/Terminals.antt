@@ -37,10 +37,10 @@ string = one (terminal_of Quoted [] ∷ [])
 abbrev pub text_test : Expression
 text_test = one (terminal_of TextTest [] ∷ [])
 
--- the part once or more, with this between
+-- the expression once or more, with this between
 abbrev pub list_of : Expression → Expression → Expression
 list_of between p = both p (many (both between p))
 
--- what stands between the parts of most lists
+-- what stands between the expressions of most lists
 abbrev pub comma : Expression
 comma = sign (codes ",")

@@ -18,7 +18,7 @@ IsFirstWrong rules p s wrong =
     (follow : ℕ → List ℕ) → AreGood rules follow → AreLL1 follow (p ∷ [])
     → FirstWrong rules p s wrong
 
--- the value is these rules with this part to start from
+-- the value is these rules with this expression to start from
 pub record Says (g : Grammar) (rules : Rules) (p : grammar.Expression) : Type 0 where
   pub each_rule : (n : ℕ) → rules_of g n ≡ rules n
   pub start_is : expression_of g.start.now ≡ p

@@ -1,8 +1,8 @@
--- What the first part that is still to come does with a terminal, as the program finds it.
+-- What the first expression that is still to come does with a terminal, as the program finds it.
 use Rattle.std.specs.Prelude.{ℕ, Bool, false, ◌||◌, if◌then◌else◌, List, [], ◌∷◌, ◌++◌}
 use Rattle.tb_token.specs.grammar.Grammar.{Expression, one, both, either, maybe, many, opened, Rules, has}
 
--- whether the part, or what is behind it where it may be empty, begins with the terminal
+-- whether the expression, or what is behind it where it may be empty, begins with the terminal
 abbrev pub begins_by : Expression → ℕ → Bool → Bool
 begins_by (one c) x behind = has c x
 begins_by (both p q) x behind = begins_by p x (begins_by q x behind)
@@ -11,14 +11,14 @@ begins_by (maybe p) x behind = begins_by p x behind || behind
 begins_by (many p) x behind = begins_by p x behind || behind
 begins_by (opened c n) x behind = has c x
 
--- it takes the terminal and leaves these parts of itself, or leaves the terminal to what is behind, or
+-- it takes the terminal and leaves these expressions of itself, or leaves the terminal to what is behind, or
 -- cannot go on
 pub data Step : Type 0 where
   taken : List Expression → Step
   passed : Step
   stuck : Step
 
--- behind a part that passes, and before this part
+-- behind an expression that passes, and before this expression
 abbrev pub or_else : Step → Expression → Step → Step
 or_else (taken ps) q other = taken (ps ++ q ∷ [])
 or_else passed q other = other

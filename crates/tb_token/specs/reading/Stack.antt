@@ -1,4 +1,4 @@
--- Parts that are still to come, kept in a stack whose top is last.
+-- Expressions that are still to come, kept in a stack whose top is last.
 use Rattle.std.specs.Prelude.{◌≡◌, ℕ, Bool, true, false, List, [], ◌∷◌, ◌++◌, Some, None}
 use Rattle.std.specs.Borrow.{Bor}
 use Rattle.tb_token.specs.grammar.Grammar as grammar
@@ -9,12 +9,12 @@ use Rattle.tb_token.specs.declared.reader.expression.Expression.{Expression}
 use Rattle.tb_token.specs.declared.reader.take.Took.{Took}
 use Rattle.tb_token.specs.declared.reader.take.Took.TheVariants as took
 
--- the parts from the top down
+-- the expressions from the top down
 abbrev pub expressions_in : List (Bor Expression) → List grammar.Expression
 expressions_in [] = []
 expressions_in (p ∷ above) = expressions_in above ++ expression_of p.now ∷ []
 
--- the stack has what a step leaves of a part, over what was there; where the part passes it is as
+-- the stack has what a step leaves of an expression, over what was there; where the expression passes it is as
 -- before, and where it is stuck nothing is said of it
 abbrev pub HasTaken : Step → List (Bor Expression) → List (Bor Expression) → Took → Type 0
 HasTaken s before now took.Taken =
@@ -26,13 +26,13 @@ abbrev pub is_passed : Took → Bool
 is_passed took.Passed = true
 is_passed _ = false
 
--- what a repetition did, whose part begins with the terminal
+-- what a repetition did, whose expression begins with the terminal
 abbrev pub of_more : Took → Took
 of_more took.Taken = took.Taken
 of_more took.Passed = took.Stuck
 of_more took.Stuck = took.Stuck
 
--- the parts have taken the terminal, or cannot go on with it
+-- the expressions have taken the terminal, or cannot go on with it
 abbrev pub HaveGone : grammar.Rules → ℕ → List (Bor Expression) → List (Bor Expression) → Bool → Type 0
 HaveGone rules x before now true = after rules (expressions_in before) x ≡ Some (expressions_in now)
 HaveGone rules x before now false = after rules (expressions_in before) x ≡ None

@@ -5,7 +5,7 @@ use Rattle.tb_token.specs.declared.reader.expression.Expression.{Expression, fol
 use Rattle.tb_token.specs.declared.reader.expression.Expression.TheOpen.{Expression-F}
 use Rattle.tb_token.specs.declared.reader.expression.Grammar.{Grammar}
 
--- one part whose own parts are seen already
+-- one expression whose own expressions are seen already
 abbrev pub expression_step : Expression-F grammar.Expression → grammar.Expression
 expression_step (Expression-F.One cs) = grammar.one cs.now
 expression_step (Expression-F.Both p q) = grammar.both p.now q.now

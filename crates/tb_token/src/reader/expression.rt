@@ -16,15 +16,15 @@ pub enum Expression<'g> {
     Both(&'g Expression<'g>, &'g Expression<'g>),
     /// The first or the second.
     Either(&'g Expression<'g>, &'g Expression<'g>),
-    /// The part, or nothing.
+    /// The expression, or nothing.
     Maybe(&'g Expression<'g>),
-    /// The part any number of times.
+    /// The expression any number of times.
     Many(&'g Expression<'g>),
     /// One token whose terminal is among these, and behind it what the rule of this number says.
     Opened(&'g [u8], usize),
 }
 
-/// A part that sentences are read by, and what each rule says.
+/// An expression that sentences are read by, and what each rule says.
 #[derive(Clone, Copy)]
 pub struct Grammar<'g> {
     pub start: &'g Expression<'g>,
@@ -46,11 +46,11 @@ impl<'g> Grammar<'g> {
     }
 }
 
-/// Whether the part begins with the terminal, or what is behind it does, where it may be empty.
-pub fn begins(part: &Expression, terminal: u8, behind: bool) -> bool
-    ensures { result ≡ begins_by (expression_of part.now) terminal behind }
+/// Whether the expression begins with the terminal, or what is behind it does, where it may be empty.
+pub fn begins(expression: &Expression, terminal: u8, behind: bool) -> bool
+    ensures { result ≡ begins_by (expression_of expression.now) terminal behind }
 {
-    match part {
+    match expression {
         Expression::One(terminals) => has(terminals, terminal),
         Expression::Both(first, second) => {
             begins(first, terminal, false)
@@ -59,17 +59,17 @@ pub fn begins(part: &Expression, terminal: u8, behind: bool) -> bool
         Expression::Either(first, second) => {
             begins(first, terminal, behind) || begins(second, terminal, behind)
         }
-        Expression::Maybe(part) => behind || begins(part, terminal, false),
-        Expression::Many(part) => behind || begins(part, terminal, false),
+        Expression::Maybe(expression) => behind || begins(expression, terminal, false),
+        Expression::Many(expression) => behind || begins(expression, terminal, false),
         Expression::Opened(terminals, _) => has(terminals, terminal),
     }
 }
 
-/// Whether each sentence of the part has a token.
-pub fn is_never_empty(part: &Expression) -> bool
-    ensures { result ≡ is_never_empty (expression_of part.now) }
+/// Whether each sentence of the expression has a token.
+pub fn is_never_empty(expression: &Expression) -> bool
+    ensures { result ≡ is_never_empty (expression_of expression.now) }
 {
-    match part {
+    match expression {
         Expression::One(_) => true,
         Expression::Both(first, second) => is_never_empty(first) || is_never_empty(second),
         Expression::Either(first, second) => is_never_empty(first) && is_never_empty(second),

@@ -1,4 +1,4 @@
-//! One part and one terminal.
+//! One expression and one terminal.
 
 ghost use Rattle.std.specs.Prelude.{◌≡◌, IfOk, if◌then◌else◌};
 ghost use Rattle.tb_token.specs.reading.View.{expression_of, rules_of};
@@ -10,7 +10,7 @@ use crate::lexer::terminals::has;
 use crate::reader::expression::{Expression, Grammar, begins};
 use std::alloc::AllocError;
 
-/// What a part did with a terminal.
+/// What an expression did with a terminal.
 #[derive(Clone, Copy, Debug, PartialEq, Eq)]
 pub enum Took {
     /// It took it.
@@ -31,7 +31,7 @@ impl Took {
         }
     }
 
-    /// What a repetition did, where this is what its part did, which begins with the terminal.
+    /// What a repetition did, where this is what its expression did, which begins with the terminal.
     fn of_more(self) -> Took
         ensures { result ≡ of_more self }
     {
@@ -42,17 +42,17 @@ impl Took {
     }
 }
 
-/// Lets the part take the terminal, and puts what is left of the part on the stack.
+/// Lets the expression take the terminal, and puts what is left of the expression on the stack.
 pub fn take<'g>(
     grammar: &Grammar<'g>,
-    part: &'g Expression<'g>,
+    expression: &'g Expression<'g>,
     terminal: u8,
     stack: &mut Vec<&'g Expression<'g>>,
 ) -> Result<Took, AllocError>
-    ensures { IfOk result (HasTaken (step (rules_of grammar.now) (expression_of part.now) terminal)
+    ensures { IfOk result (HasTaken (step (rules_of grammar.now) (expression_of expression.now) terminal)
         stack.old.items stack.new.items) }
 {
-    match part {
+    match expression {
         Expression::One(terminals) => Ok(taken_if(has(terminals, terminal))),
         Expression::Both(first, second) => {
             stack.push(second)?;
@@ -72,7 +72,7 @@ pub fn take<'g>(
         ),
         Expression::Maybe(_) => Ok(Took::Passed),
         Expression::Many(inner) if begins(inner, terminal, false) => {
-            stack.push(part)?;
+            stack.push(expression)?;
             Ok(take(grammar, inner, terminal, stack)?.of_more())
         }
         Expression::Many(_) => Ok(Took::Passed),

@@ -9,7 +9,7 @@ use crate::reader::stack::{goes_on, may_end};
 use std::alloc::{AllocError, Global};
 
 /// The number, from 1, of the first token that begins no sentence of the grammar with those before it, or
-/// one more than there are. `None` for a sentence. Parts inside each other cost no calls.
+/// one more than there are. `None` for a sentence. Expressions inside each other cost no calls.
 pub fn first_wrong(
     alloc: Global,
     grammar: &Grammar,

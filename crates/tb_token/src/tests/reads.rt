@@ -1,5 +1,5 @@
 //! What no clause says: that a grammar is read with ample memory, by texts whose wrong token was found
-//! by hand, and that parts inside each other cost no calls.
+//! by hand, and that expressions inside each other cost no calls.
 
 use crate::{Expression, Grammar, first_wrong, lexemes, tokens};
 use std::alloc::{AllocError, Global};

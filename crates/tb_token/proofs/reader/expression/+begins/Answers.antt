@@ -1,4 +1,4 @@
--- Of two parts in turn the second matters where the first may be empty.
+-- Of two expressions in turn the second matters where the first may be empty.
 use Rattle.std.proofs.Common.{ap, sym, ◌∙◌, not}
 use Rattle.tb_token.specs.reading.View.{expression_of}
 use Rattle.tb_token.specs.reading.Machine.{begins_by}
