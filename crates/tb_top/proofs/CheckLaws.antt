@@ -5,6 +5,7 @@ use Rattle.tb_script.specs.declared.command.Command.{Command}
 use Rattle.tb_script.specs.declared.command.Command.TheVariants.{Load, Query, Tell, Hear}
 use Rattle.tb_top.specs.Check.{IsRefusal, AreLines, AreRefusals, IsCheck, query_refusal, counts_of, commands_count, queries_of, queries_in}
 use Rattle.tb_top.specs.Pieces.{Grows}
+use Rattle.tb_script.specs.Runnable.{HasBodyThatFits}
 use Rattle.tb_flwor.proofs.OneFault.{fault-once}
 
 pub commands-few : (css : List (List Command)) → AllByRecursion (λ cs. length cs ≤ 10000) css → commands_count css ≤ 10000 * length css
@@ -56,3 +57,24 @@ check-unique css a b one two =
     ∙ ap (λ lines. lines ++ counts_of css)
     (lines-once AreRefusals (λ session cs x y p q. lines-once (IsRefusal session) (refusal-once session) 1 cs x y p q) 1 css one.0 two.0 one.1 two.1)
     ∙ sym two.2
+
+-- where nothing is left to give, the list is empty
+pub none-left : {X : Type 0} (xs : List X) (n : ℕ) → n ≡ length xs → n ≡ 0 → xs ≡ []
+none-left [] n e none = refl
+none-left (x ∷ xs) n e none = absurd (omega (arith, e, none))
+
+-- Where the text grows by the refusals of the commands that are left, it has grown by all; they fit, and have
+-- numbers.
+abbrev pub Left : ℕ → ℕ → List ℕ → List ℕ → List Command → List Command → Type 0
+Left session number initial text all cs =
+    ((new : List ℕ) → Grows text new (AreLines (IsRefusal session) (number + 1) cs) → Grows initial new (AreRefusals session all))
+    × AllByRecursion HasBodyThatFits cs
+    × (number + length cs ≤ length all)
+
+pub left-more : (session number : ℕ) (initial text mid : List ℕ) (all cs rest : List Command) (c : Command) → cs ≡ c ∷ rest → Left session number initial text all cs
+    → Grows text mid (IsRefusal session (number + 1) c) → Left session (number + 1) initial mid all rest
+left-more session number initial text mid all cs rest c next left own = (
+  λ new more. left.0 new (lines-more (IsRefusal session) (number + 1) c cs rest text mid new next own more),
+  (subst (AllByRecursion HasBodyThatFits) next left.1).1,
+  omega (arith, left.2, ap length next),
+)

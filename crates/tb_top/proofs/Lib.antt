@@ -10,6 +10,7 @@ pub mod RunningLaws
 pub mod DoneLaws
 pub mod HistoryLaws
 pub mod ReadyLaws
+pub mod TakenLaws
 pub mod CheckLaws
 pub mod BuiltLaws
 pub mod SettledLaws

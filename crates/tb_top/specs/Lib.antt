@@ -8,6 +8,7 @@ pub mod Deeds
 pub mod FaultText
 pub mod Transcript
 pub mod Single
+pub mod Taken
 pub mod Check
 pub mod Tasks
 pub mod Cuts

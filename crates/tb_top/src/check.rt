@@ -17,41 +17,48 @@ use tb_flwor::QueryFault;
 use tb_script::{Command, Script, Workload};
 use tb_tree::Tree;
 
-/// The refusals and the counts of a script.
-pub fn check(alloc: Global, w: &Workload) -> Result<Vec<u8>, AllocError>
-    requires { IsRunnable w.now }
-    ensures { IfOk result (λ text. IsCheck (commands_in w.now) text.items) }
+/// The refusals and the counts of a script, whose commands are let go one after the other.
+pub fn check(alloc: Global, w: Workload) -> Result<Vec<u8>, AllocError>
+    requires { IsRunnable w }
+    ensures { IfOk result (λ text. IsCheck (commands_in w) text.items) }
 {
     let mut text = Vec::new(alloc);
-    check_sessions(alloc, &w.sessions, &mut text)?;
+    check_sessions(alloc, w.sessions, &mut text)?;
     Ok(text)
 }
 
-fn check_sessions(alloc: Global, sessions: &[Script], text: &mut Vec<u8>) -> Result<(), AllocError>
+fn check_sessions(
+    alloc: Global,
+    sessions: Vec<Script>,
+    text: &mut Vec<u8>,
+) -> Result<(), AllocError>
     requires fit { AllByRecursion (AllByRecursion HasBodyThatFits)
-        (map (λ s. s.commands.items) sessions.now) }
-    requires commands { commands_count (map (λ s. s.commands.items) sessions.now) < 2 ^ 32 }
-    requires loads { loads_in (map (λ s. s.commands.items) sessions.now) < 2 ^ 32 }
-    requires queries { queries_in (map (λ s. s.commands.items) sessions.now) < 2 ^ 32 }
+        (map (λ s. s.commands.items) sessions.items) }
+    requires commands { commands_count (map (λ s. s.commands.items) sessions.items) < 2 ^ 32 }
+    requires loads { loads_in (map (λ s. s.commands.items) sessions.items) < 2 ^ 32 }
+    requires queries { queries_in (map (λ s. s.commands.items) sessions.items) < 2 ^ 32 }
     ensures { OnOk result (Grows text.old.items text.new.items
-        (IsCheck (map (λ s. s.commands.items) sessions.now))) }
+        (IsCheck (map (λ s. s.commands.items) sessions.items))) }
 {
+    let count = sessions.len() as u64;
+    let commands = commands_in(&sessions);
+    let loads = loads_in(&sessions);
+    let queries = queries_in(&sessions);
     push_refusals(alloc, sessions, text)?;
-    let commands = commands_in(sessions);
-    let loads = loads_in(sessions);
-    let queries = queries_in(sessions);
-    push_counts(sessions.len() as u64, commands, loads, queries, text)?;
+    push_counts(count, commands, loads, queries, text)?;
     Ok(())
 }
 
-fn push_refusals(alloc: Global, sessions: &[Script], text: &mut Vec<u8>) -> Result<(), AllocError>
+fn push_refusals(alloc: Global, sessions: Vec<Script>, text: &mut Vec<u8>) -> Result<(), AllocError>
     requires { AllByRecursion (AllByRecursion HasBodyThatFits)
-        (map (λ s. s.commands.items) sessions.now) }
+        (map (λ s. s.commands.items) sessions.items) }
     ensures { OnOk result (Grows text.old.items text.new.items
-        (AreAllRefusals (map (λ s. s.commands.items) sessions.now))) }
+        (AreAllRefusals (map (λ s. s.commands.items) sessions.items))) }
 {
-    'sessions: for (place, script) in sessions.iter().enumerate() {
-        push_refusals_of(alloc, place as u64 + 1, &script.commands, text)?;
+    let mut session = 0;
+    'sessions: for script in sessions {
+        session += 1;
+        push_refusals_of(alloc, session, script.commands, text)?;
     }
     Ok(())
 }
@@ -59,14 +66,16 @@ fn push_refusals(alloc: Global, sessions: &[Script], text: &mut Vec<u8>) -> Resu
 fn push_refusals_of(
     alloc: Global,
     session: u64,
-    commands: &[Command],
+    commands: Vec<Command>,
     text: &mut Vec<u8>,
 ) -> Result<(), AllocError>
-    requires { AllByRecursion HasBodyThatFits commands.now }
-    ensures { OnOk result (Grows text.old.items text.new.items (AreRefusals session commands.now)) }
+    requires { AllByRecursion HasBodyThatFits commands.items }
+    ensures { OnOk result (Grows text.old.items text.new.items (AreRefusals session commands.items)) }
 {
-    'commands: for (place, command) in commands.iter().enumerate() {
-        push_refusal(alloc, session, place as u64 + 1, command, text)?;
+    let mut number = 0;
+    'commands: for command in commands {
+        number += 1;
+        push_refusal(alloc, session, number, &command, text)?;
     }
     Ok(())
 }

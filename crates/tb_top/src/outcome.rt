@@ -44,15 +44,15 @@ pub fn outcome_of(alloc: Global, task: Task, bytes: Vec<u8>) -> Result<Outcome, 
     if !built {
         return Ok(Outcome::NotBuilt);
     }
-    let text = output(alloc, task, &w)?;
+    let text = output(alloc, task, w)?;
     Ok(Outcome::Text(text))
 }
 
 /// What a command prints of a script.
-fn output(alloc: Global, task: Task, w: &Workload) -> Result<Vec<Vec<u8>>, AllocError>
-    requires runnable { IsRunnable w.now }
-    requires built { AreBuilt w.now }
-    ensures { IfOk result (λ pieces. IsOutput task w.now (joined pieces.items)) }
+fn output(alloc: Global, task: Task, w: Workload) -> Result<Vec<Vec<u8>>, AllocError>
+    requires runnable { IsRunnable w }
+    requires built { AreBuilt w }
+    ensures { IfOk result (λ pieces. IsOutput task w (joined pieces.items)) }
 {
     match task {
         Task::Single => transcript(alloc, w),

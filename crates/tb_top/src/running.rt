@@ -44,27 +44,30 @@ pub struct Running {
 
 impl Running {
     /// Does a command.
-    pub fn act(&mut self, step: Turnstep, command: &Command) -> Result<(), AllocError>
+    pub fn act(&mut self, step: Turnstep, command: Command) -> Result<(), AllocError>
         requires stands { Stands (progress_of self.old) step }
-        requires ready { IsReadyFor self.old.world command.now }
+        requires ready { IsReadyFor self.old.world command }
         ensures { OnOk result
-            (Does step command.now (progress_of self.old) (progress_of self.new)) }
+            (Does step command (progress_of self.old) (progress_of self.new)) }
     {
         match command {
-            Command::Load { name, lines } => self.load(step, name, lines.as_slice()),
+            Command::Load { name, lines } => self.load(step, &name, lines),
             Command::Query { text } => self.query(step, text.as_slice()),
-            Command::Tell { mark, name } => self.tell(step, *mark, name.as_slice()),
-            Command::Hear { mark, name } => self.hear(step, *mark, name.as_slice()),
+            Command::Tell { mark, name } => self.tell(step, mark, name.as_slice()),
+            Command::Hear { mark, name } => self.hear(step, mark, name.as_slice()),
         }
     }
 
-    fn load(&mut self, step: Turnstep, name: &Bytes, lines: &[u8]) -> Result<(), AllocError>
+    fn load(&mut self, step: Turnstep, name: &Bytes, lines: Bytes) -> Result<(), AllocError>
         requires stands { Stands (progress_of self.old) step }
-        requires ready { IsReadyFor self.old.world (command.Load name.now lines.now) }
-        ensures { OnOk result (Does step (command.Load name.now lines.now)
+        requires ready { IsReadyFor self.old.world (command.Load name.now lines) }
+        ensures { OnOk result (Does step (command.Load name.now lines)
             (progress_of self.old) (progress_of self.new)) }
     {
-        match read_tree(self.alloc, lines) {
+        let read = read_tree(self.alloc, lines.as_slice());
+        // Labels are made beside the document alone.
+        drop(lines);
+        match read {
             Ok(tree) => self.accept(step, name, tree),
             Err(EsisFault::NoMemory) => Err(AllocError),
             Err(fault) => self.refuse(step, &fault),
@@ -82,8 +85,8 @@ impl Running {
     {
         let store = Store::build(self.alloc, tree)?;
         let session = step.session;
-        let change = number(&mut self.world, Event::Change { session });
         self.history.add(self.alloc, session, name, store)?;
+        let change = number(&mut self.world, Event::Change { session });
         let part = &mut self.parts[session as usize];
         push_load_line(number_in(step), name.as_slice(), change, part)?;
         Ok(())

@@ -1,6 +1,6 @@
 //! The transcript of a script whose commands are done one after the other.
 
-ghost use Rattle.std.specs.Prelude.{◌≡◌, ◌++◌, ◌<◌, ◌≤◌, IfOk, OnOk, Some, IsSome, length, map, codes};
+ghost use Rattle.std.specs.Prelude.{◌≡◌, ◌++◌, IfOk, OnOk, IsSome, map, codes};
 ghost use Rattle.std.specs.List.{flat_map};
 ghost use Rattle.tb_script.specs.Runnable.{IsRunnable, commands_in};
 ghost use Rattle.tb_script.specs.Schedule.{command_at};
@@ -9,37 +9,45 @@ ghost use Rattle.tb_top.specs.Transcript.{history_lines, history_part};
 ghost use Rattle.tb_top.specs.Pieces.{joined, text_in};
 ghost use Rattle.tb_top.specs.Running.{progress_of, ended};
 ghost use Rattle.tb_top.specs.Kept.{change_in};
+ghost use Rattle.tb_top.specs.Taken.{Takes};
 
 use crate::history::Change;
 use crate::pieces::Pieces;
 use crate::printer::{push_history_line, push_number};
 use crate::running::{Running, start};
 use std::alloc::{AllocError, Global};
+use std::mem::{forget, replace};
 use tb_script::{Command, Turnstep, Workload, schedule};
+use tb_tree::Bytes;
 
-/// The transcript of a script, in pieces.
-pub fn transcript(alloc: Global, w: &Workload) -> Result<Vec<Vec<u8>>, AllocError>
-    requires runnable { IsRunnable w.now }
-    requires built { AreBuilt w.now }
-    ensures { IfOk result (λ pieces. IsTranscript w.now (joined pieces.items)) }
+/// The transcript of a script, in pieces. Each command is taken out of the script when its turn comes, so a body
+/// is let go behind its reading.
+pub fn transcript(alloc: Global, w: Workload) -> Result<Vec<Vec<u8>>, AllocError>
+    requires runnable { IsRunnable w }
+    requires built { AreBuilt w }
+    ensures { IfOk result (λ pieces. IsTranscript w (joined pieces.items)) }
 {
-    let steps = schedule(alloc, w)?;
-    let mut running = start(alloc, w)?;
+    let steps = schedule(alloc, &w)?;
+    let mut running = start(alloc, &w)?;
+    let mut left = w;
     'steps: for step in &steps {
-        let command = command_at(w, *step);
+        let command = take_command(alloc, *step, &mut left);
         running.act(*step, command)?;
     }
     let pieces = finish(alloc, running)?;
     Ok(pieces)
 }
 
-/// The command of a step.
-fn command_at<'w>(w: &'w Workload, step: Turnstep) -> &'w Command
-    requires { IsSome (command_at (commands_in w.now) step) }
-    ensures { command_at (commands_in w.now) step ≡ Some result.now }
+/// Takes the command of a step out of the script.
+fn take_command(alloc: Global, step: Turnstep, w: &mut Workload) -> Command
+    requires { IsSome (command_at (commands_in w.old) step) }
+    ensures { Takes w.old step result w.new }
 {
-    let script = &w.sessions[step.session as usize];
-    &script.commands[step.command as usize]
+    let script = &mut w.sessions[step.session as usize];
+    let nothing = Command::Query {
+        text: Bytes::from_vec(Vec::new(alloc)),
+    };
+    replace(&mut script.commands[step.command as usize], nothing)
 }
 
 /// The parts of the sessions and the history.
@@ -50,6 +58,8 @@ fn finish(alloc: Global, running: Running) -> Result<Vec<Vec<u8>>, AllocError>
     let mut pieces = Pieces::new(alloc);
     add_parts(parts, &mut pieces)?;
     pieces.add(history_text(alloc, history.changes())?)?;
+    // The process ends soon: to free each list of each document would only take time.
+    forget(history);
     let pieces = pieces.all()?;
     Ok(pieces)
 }

@@ -1,18 +1,11 @@
 //! The joins and the plain recursion, which have one contract, on a table of documents and names.
 
-ghost use Rattle.std.specs.Prelude.{◌<◌, ◌≤◌, ◌^◌, IfOk, IfSome};
-ghost use Rattle.tb_tree.specs.Plain.{one};
-ghost use Rattle.tb_tree.specs.View.{plain_of};
-ghost use Rattle.tb_tree.specs.Numbers.{count};
-ghost use Rattle.tb_tree.specs.Levels.{levels};
-
 use super::plain;
+use super::stores::document;
 use crate::matching::{Match, matches};
 use std::alloc::{AllocError, Global};
 use std::test::Fail;
-use tb_esis::{EsisFault, read_tree};
 use tb_label::Store;
-use tb_tree::Tree;
 
 const NO_DOCUMENT: &str = "no document";
 
@@ -24,21 +17,6 @@ fn shown(alloc: Global, found: &[Match]) -> Result<String, AllocError> {
         text.push_str(&word)?;
     }
     Ok(text)
-}
-
-// The document of the lines, where they are one.
-fn document(alloc: Global, lines: &[u8]) -> Result<Option<Tree>, AllocError>
-    ensures nodes { IfOk result (λ tree. IfSome tree (λ t. count (plain_of t) < 2 ^ 30)) }
-    ensures levels { IfOk result (λ tree. IfSome tree (λ t. levels (one (plain_of t)) ≤ 512)) }
-{
-    if lines.len() > 1000 {
-        return Ok(None);
-    }
-    match read_tree(alloc, lines) {
-        Ok(tree) => Ok(Some(tree)),
-        Err(EsisFault::NoMemory) => Err(AllocError),
-        Err(_) => Ok(None),
-    }
 }
 
 fn by_joins(

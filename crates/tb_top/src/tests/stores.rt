@@ -62,8 +62,8 @@ const NESTED: &[u8] = b"(a\n(a\n(a\n)a\n)a\n)a\n";
 // An element `r` with an attribute, a text, and an element `b` that holds a text.
 const MIXED: &[u8] = b"Ak CDATA 1\n(r\n-x\n(b\n-y\n)b\n)r\n";
 
-// The document of the lines.
-fn document(alloc: Global, lines: &[u8]) -> Result<Option<Tree>, AllocError>
+// The document of the lines, where they are one.
+pub fn document(alloc: Global, lines: &[u8]) -> Result<Option<Tree>, AllocError>
     ensures nodes { IfOk result (λ tree. IfSome tree (λ t. count (plain_of t) < 2 ^ 30)) }
     ensures levels { IfOk result (λ tree. IfSome tree (λ t. levels (one (plain_of t)) ≤ 512)) }
 {

@@ -1,13 +1,12 @@
 -- The next session's refusals stand before those of the sessions behind it.
-use Rattle.std.proofs.Common.{◌≡◌, ◌+◌, List, ◌∷◌, map, drop, sym, ap, ◌∙◌, subst}
+use Rattle.std.proofs.Common.{◌≡◌, ◌+◌, List, ◌∷◌, [], map, length, ap, ◌∙◌, subst, arith}
 use Rattle.std.specs.List.{AllByRecursion}
-use Rattle.std.proofs.lemmas.List.{drop_more, drop_all}
+use Rattle.std.specs.Vec.Iter.{into_iter_items}
 use Rattle.tb_script.specs.Runnable.{HasBodyThatFits}
 use Rattle.tb_script.specs.declared.command.Command.{Command}
 use Rattle.tb_script.specs.declared.command.Script.{Script}
 use Rattle.tb_top.specs.Check.{AreRefusals}
-use Rattle.tb_top.specs.Pieces.{Grows}
-use Rattle.tb_top.proofs.CheckLaws.{lines-more, lines-end}
+use Rattle.tb_top.proofs.CheckLaws.{lines-more, lines-end, none-left}
 use Rattle.tb_top.proofs.check.push_refusals.Goals as goal
 
 abbrev commands : List Script → List (List Command)
@@ -15,20 +14,20 @@ commands ss = map (λ s. s.commands.items) ss
 
 pub sessions-preserved : goal.sessions-preserved
 sessions-preserved c =
-    let ss = c.args.sessions.now in
-    let i = c.sessions.place in
-    let script = c.index-sessions-place.result in
-    let next : drop i ss ≡ script ∷ drop (i + 1) ss = drop_more ss i script c.sessions-test.true ∙ ap (λ x. x ∷ drop (i + 1) ss) (sym c.index-sessions-place.is) in
-    let rows : commands (drop i ss) ≡ script.commands.items ∷ commands (drop (i + 1) ss) = ap commands next in
-    let own = subst (λ cs. Grows c.sessions.text.items c.push_refusals_of.new.text.items (AreRefusals (i + 1) cs)) c.deref.ensures.value c.in_ok-push_refusals_of.ensures in (
-      λ new rest.
+    let ss = into_iter_items c.sessions.script-iterator in
+    let rest = into_iter_items c.next.new.self in
+    let script = c.in-Some.script in
+    let next : ss ≡ script ∷ rest = c.in-Some.ensures.steps.0 in
+    let rows : commands ss ≡ script.commands.items ∷ commands rest = ap commands next in (
+      λ new more.
           c.sessions.invariant.0 new
-          (lines-more AreRefusals (i + 1) script.commands.items (commands (drop i ss)) (commands (drop (i + 1) ss)) c.sessions.text.items c.push_refusals_of.new.text.items new rows own rest),
+          (lines-more AreRefusals (c.sessions.session + 1) script.commands.items (commands ss) (commands rest) c.sessions.text.items c.push_refusals_of.new.text.items new rows c.in_ok-push_refusals_of.ensures more),
       (subst (AllByRecursion (AllByRecursion HasBodyThatFits)) rows c.sessions.invariant.1).1,
+      omega (arith, c.sessions.invariant.2, ap length next),
     )
 
 pub returns : goal.returns
 returns c =
-    let ss = c.args.sessions.now in
-    let i = c.sessions.place in
-    c.sessions.invariant.0 c.sessions.text.items (lines-end AreRefusals (i + 1) (commands (drop i ss)) c.sessions.text.items (ap commands (drop_all i ss c.sessions-test.false)))
+    let it = c.sessions.script-iterator in
+    let none = none-left (into_iter_items it) it.rest.len it.rest.ok.0 c.in-None.ensures.steps.0 in
+    c.sessions.invariant.0 c.sessions.text.items (lines-end AreRefusals (c.sessions.session + 1) (commands (into_iter_items it)) c.sessions.text.items (ap commands none))

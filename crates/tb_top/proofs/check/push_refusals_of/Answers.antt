@@ -1,26 +1,27 @@
--- The next command's refusal stands before those of the commands behind it.
-use Rattle.std.proofs.Common.{◌≡◌, ◌+◌, ◌∷◌, drop, sym, ap, ◌∙◌, subst}
-use Rattle.std.specs.List.{AllByRecursion}
-use Rattle.std.proofs.lemmas.List.{drop_more, drop_all}
-use Rattle.tb_script.specs.Runnable.{HasBodyThatFits}
+-- The next command's refusal stands before those of the commands behind it, whatever the command is.
+use Rattle.std.proofs.Common.{◌+◌}
+use Rattle.std.specs.Vec.Iter.{into_iter_items}
 use Rattle.tb_top.specs.Check.{IsRefusal}
-use Rattle.tb_top.proofs.CheckLaws.{lines-more, lines-end}
+use Rattle.tb_top.proofs.CheckLaws.{lines-end, none-left, left-more}
 use Rattle.tb_top.proofs.check.push_refusals_of.Goals as goal
 
 pub commands-preserved : goal.commands-preserved
 commands-preserved c =
-    let cs = c.args.commands.now in
-    let i = c.commands.place in
-    let command = c.index-commands-place.result in
-    let next : drop i cs ≡ command ∷ drop (i + 1) cs = drop_more cs i command c.commands-test.true ∙ ap (λ x. x ∷ drop (i + 1) cs) (sym c.index-commands-place.is) in (
-      λ new rest.
-          c.commands.invariant.0 new
-          (lines-more (IsRefusal c.args.session) (i + 1) command (drop i cs) (drop (i + 1) cs) c.commands.text.items c.push_refusal.new.text.items new next c.in_ok-push_refusal.ensures rest),
-      (subst (AllByRecursion HasBodyThatFits) next c.commands.invariant.1).1,
-    )
+    left-more c.args.session c.commands.number c.args.text.now.items c.commands.text.items c.push_refusal.new.text.items c.args.commands.items
+    (into_iter_items c.commands.command-iterator) (into_iter_items c.next.new.self) c.in-Some.command c.in-Some.ensures.steps.0 c.commands.invariant c.in_ok-push_refusal.ensures
+
+pub commands-preserved-in_ok-push_refusal : goal.commands-preserved-in_ok-push_refusal
+commands-preserved-in_ok-push_refusal c =
+    left-more c.args.session c.commands.number c.args.text.now.items c.commands.text.items c.push_refusal.new.text.items c.args.commands.items
+    (into_iter_items c.commands.command-iterator) (into_iter_items c.next.new.self) c.in-Some.command c.in-Some.ensures.steps.0 c.commands.invariant c.in_ok-push_refusal.ensures
+
+pub commands-preserved-in_ok-push_refusal-2 : goal.commands-preserved-in_ok-push_refusal-2
+commands-preserved-in_ok-push_refusal-2 c =
+    left-more c.args.session c.commands.number c.args.text.now.items c.commands.text.items c.push_refusal.new.text.items c.args.commands.items
+    (into_iter_items c.commands.command-iterator) (into_iter_items c.next.new.self) c.in-Some.command c.in-Some.ensures.steps.0 c.commands.invariant c.in_ok-push_refusal.ensures
 
 pub returns : goal.returns
 returns c =
-    let cs = c.args.commands.now in
-    let i = c.commands.place in
-    c.commands.invariant.0 c.commands.text.items (lines-end (IsRefusal c.args.session) (i + 1) (drop i cs) c.commands.text.items (drop_all i cs c.commands-test.false))
+    let it = c.commands.command-iterator in
+    let none = none-left (into_iter_items it) it.rest.len it.rest.ok.0 c.in-None.ensures.steps.0 in
+    c.commands.invariant.0 c.commands.text.items (lines-end (IsRefusal c.args.session) (c.commands.number + 1) (into_iter_items it) c.commands.text.items none)
