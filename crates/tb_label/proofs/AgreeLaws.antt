@@ -10,27 +10,27 @@ use Rattle.tb_tree.proofs.lists.Alls.{all-both, all-weaker}
 use Rattle.tb_label.specs.Rows.{Row, rows_of, document_label, IsLeftOf, IsParentOf, Agree, Follows, inside, beside}
 use Rattle.tb_label.proofs.RowLaws.{IsUnder, AllFollow, all_under, all_follow}
 
-head-same : (front a b : List ℕ) (j k : ℕ) → front ++ j ∷ a ≡ front ++ k ∷ b → j ≡ k
-head-same front a b j k is = ap (λ xs. get_or xs 0 0) (append_cancel_left front (j ∷ a) (k ∷ b) is)
+head-same : (prefix a b : List ℕ) (j k : ℕ) → prefix ++ j ∷ a ≡ prefix ++ k ∷ b → j ≡ k
+head-same prefix a b j k is = ap (λ xs. get_or xs 0 0) (append_cancel_left prefix (j ∷ a) (k ∷ b) is)
 
 below-self : (u v : List ℕ) → IsAncestor u v → length u < length v
 below-self u v (k, rest, is) = omega (arith, ap length is, length-append u (k ∷ rest))
 
 -- a place below another stands neither right of it nor left of it
 below-left : (u v : List ℕ) → IsAncestor u v → IsLeftOf u v → ⊥
-below-left u v (c, r, below) (front, j, k, a, b, first, second, less) =
-    omega (arith, less, head-same front b (a ++ c ∷ r) k j (sym second ∙ below ∙ ap (λ x. x ++ c ∷ r) first ∙ append_assoc front (j ∷ a) (c ∷ r)))
+below-left u v (c, r, below) (prefix, j, k, a, b, first, second, less) =
+    omega (arith, less, head-same prefix b (a ++ c ∷ r) k j (sym second ∙ below ∙ ap (λ x. x ++ c ∷ r) first ∙ append_assoc prefix (j ∷ a) (c ∷ r)))
 
 below-right : (u v : List ℕ) → IsAncestor u v → IsLeftOf v u → ⊥
-below-right u v (c, r, below) (front, j, k, a, b, first, second, less) =
-    omega (arith, less, head-same front a (b ++ c ∷ r) j k (sym first ∙ below ∙ ap (λ x. x ++ c ∷ r) second ∙ append_assoc front (k ∷ b) (c ∷ r)))
+below-right u v (c, r, below) (prefix, j, k, a, b, first, second, less) =
+    omega (arith, less, head-same prefix a (b ++ c ∷ r) j k (sym first ∙ below ∙ ap (λ x. x ++ c ∷ r) second ∙ append_assoc prefix (k ∷ b) (c ∷ r)))
 
 left-self : (u : List ℕ) → IsLeftOf u u → ⊥
-left-self u (front, j, k, a, b, first, second, less) = omega (arith, less, head-same front a b j k (sym first ∙ second))
+left-self u (prefix, j, k, a, b, first, second, less) = omega (arith, less, head-same prefix a b j k (sym first ∙ second))
 
 -- two places can't each stand left of the other
-left-apart : (front front' : List ℕ) (j k j' k' : ℕ) (a b a' b' : List ℕ)
-    → front ++ j ∷ a ≡ front' ++ k' ∷ b' → front ++ k ∷ b ≡ front' ++ j' ∷ a' → j < k → j' < k' → ⊥
+left-apart : (prefix prefix' : List ℕ) (j k j' k' : ℕ) (a b a' b' : List ℕ)
+    → prefix ++ j ∷ a ≡ prefix' ++ k' ∷ b' → prefix ++ k ∷ b ≡ prefix' ++ j' ∷ a' → j < k → j' < k' → ⊥
 left-apart [] [] j k j' k' a b a' b' u v less less' = omega (arith, less, less', head-same [] a b' j k' u, head-same [] b a' k j' v)
 left-apart [] (f ∷ fs) j k j' k' a b a' b' u v less less' =
     omega (arith, less, head-same [] a (fs ++ k' ∷ b') j f u, head-same [] b (fs ++ j' ∷ a') k f v)
@@ -43,8 +43,8 @@ left-apart (f ∷ fs) (g ∷ gs) j k j' k' a b a' b' u v less less' =
     (append_cancel_left (f ∷ []) (fs ++ k ∷ b) (gs ++ j' ∷ a') (v ∙ ap (λ h. h ∷ (gs ++ j' ∷ a')) (sym same))) less less'
 
 left-right : (u v : List ℕ) → IsLeftOf u v → IsLeftOf v u → ⊥
-left-right u v (front, j, k, a, b, first, second, less) (front', j', k', a', b', first', second', less') =
-    left-apart front front' j k j' k' a b a' b' (sym first ∙ second') (sym second ∙ first') less less'
+left-right u v (prefix, j, k, a, b, first, second, less) (prefix', j', k', a', b', first', second', less') =
+    left-apart prefix prefix' j k j' k' a b a' b' (sym first ∙ second') (sym second ∙ first') less less'
 
 -- a label that ends behind its start, and whose level is the length of the place
 abbrev IsLabelled : Row → Type 0

@@ -105,9 +105,9 @@ listed test root = map item_of (filter (λ r. meets test r.node) (rows_of root))
 -- One place stands left of another where they part at a kid with a smaller number.
 abbrev pub IsLeftOf : List ℕ → List ℕ → Type 0
 IsLeftOf u v =
-    (front : List ℕ) × (j : ℕ) × (k : ℕ) × (a : List ℕ) × (b : List ℕ) × (u ≡ front ++ j ∷ a) × (v ≡ front ++ k ∷ b) × (j < k)
+    (prefix : List ℕ) × (j : ℕ) × (k : ℕ) × (a : List ℕ) × (b : List ℕ) × (u ≡ prefix ++ j ∷ a) × (v ≡ prefix ++ k ∷ b) × (j < k)
 
--- A place is the parent of another where it is its front with all kid numbers but the last.
+-- A place is the parent of another where it is its prefix with all kid numbers but the last.
 abbrev pub IsParentOf : List ℕ → List ℕ → Type 0
 IsParentOf u v = (k : ℕ) × (v ≡ u ++ k ∷ [])
 

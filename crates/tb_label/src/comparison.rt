@@ -17,8 +17,7 @@ use tb_number::{CmpOp, IntText};
 use tb_tree::Tree;
 
 /// Whether the value of the node with that number, from 1 in document order, stands so to what it is compared
-/// with. Memory is taken only for a value that lies in several pieces or has an escape, and then only where its
-/// bytes as they print don't decide.
+/// with. A value that lies in one piece is compared as it is lent or as it prints, where that decides.
 pub fn stands(
     alloc: Global,
     tree: &Tree,

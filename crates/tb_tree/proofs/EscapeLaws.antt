@@ -5,7 +5,7 @@ use Rattle.std.specs.Option.{option_map}
 use Rattle.std.proofs.lemmas.Bool.{and_parts, not-true, leb-true, leb-false}
 use Rattle.std.proofs.lemmas.List.{drop_more, take_all}
 use Rattle.memchr.specs.Find.{Nowhere, NoneBefore, Passes, is_byte}
-use Rattle.tb_tree.proofs.lists.Prefixes.{is_other, others-front}
+use Rattle.tb_tree.proofs.lists.Prefixes.{is_other, others-prefix}
 use Rattle.tb_tree.specs.Escapes.{Escape, number_from, escape_of, unescaped, unescaped_behind}
 
 -- what the bytes give behind those that an escape has taken
@@ -35,7 +35,7 @@ pub cut-backslash : (bytes : List ℕ) (at : ℕ) → NoneBefore (Passes (is_byt
 cut-backslash bytes at none here =
     let whole : bytes ≡ take at bytes ++ 92 ∷ drop (at + 1) bytes =
     sym (take-append-drop at bytes) ∙ ap (λ l. take at bytes ++ l) (drop_more bytes at 0 none.high ∙ ap (λ b. b ∷ drop (at + 1) bytes) (eqb-true (get_or bytes at 0) 92 here)) in
-    ap unescaped whole ∙ unescaped-plain (take at bytes) (92 ∷ drop (at + 1) bytes) (others-front 92 bytes at (omega (arith, none.high)) none.before)
+    ap unescaped whole ∙ unescaped-plain (take at bytes) (92 ∷ drop (at + 1) bytes) (others-prefix 92 bytes at (omega (arith, none.high)) none.before)
 
 -- where no escape follows, there is nothing that the bytes give
 pub unescaped-none : (out bytes : List ℕ) (at : ℕ) → NoneBefore (Passes (is_byte 92) bytes) 0 (length bytes) at → Passes (is_byte 92) bytes at → escape_of (drop (at + 1) bytes) ≡ None
@@ -56,7 +56,7 @@ unescaped-escape out bytes at e none here is =
 -- without a backslash
 pub unescaped-all : (bytes : List ℕ) → Nowhere (Passes (is_byte 92) bytes) 0 (length bytes) → unescaped bytes ≡ Some bytes
 unescaped-all bytes none =
-    let all = others-front 92 bytes (length bytes) (omega arith) none in
+    let all = others-prefix 92 bytes (length bytes) (omega arith) none in
     ap unescaped (sym (append-nil bytes)) ∙ unescaped-plain bytes [] (subst (λ l. list_all (is_other 92) l ≡ true) (take_all (length bytes) bytes (omega arith)) all) ∙ ap Some (append-nil bytes)
 
 -- a number past all scalars stays so

@@ -5,7 +5,7 @@ use Rattle.std.proofs.lemmas.Bool.{and_parts, and_right, not-true, false≢true}
 use Rattle.std.proofs.lemmas.List.{take_rest, take_all, take_at, take-take, drop_all, drop_more, get_or_at, length-take-le}
 use Rattle.std.proofs.Math.Seq.{drop-append-add}
 use Rattle.memchr.specs.Find.{Nowhere, NoneBefore, Passes, is_byte}
-use Rattle.tb_tree.proofs.lists.Prefixes.{is_other, others-front}
+use Rattle.tb_tree.proofs.lists.Prefixes.{is_other, others-prefix}
 use Rattle.tb_tree.specs.TextLines.{lines_in, without_return, before_first, begins_with_end, CutsLine}
 
 -- no line ends at the byte
@@ -51,7 +51,7 @@ lines_in-last b (c ∷ line) all =
     lines_in-inside b (c ∷ line) parts.0 (not-true (c == 10) next.0) ∙ ap (before_first b) (lines_in-last c line parts.1)
 
 inside-prefix : (bytes : List ℕ) (n : ℕ) → n ≤ length bytes → Nowhere (Passes (is_byte 10) bytes) 0 n → list_all inside (take n bytes) ≡ true
-inside-prefix bytes n within none = others-front 10 bytes n within none
+inside-prefix bytes n within none = others-prefix 10 bytes n within none
 
 lines_in-whole : (bytes : List ℕ) → 0 < length bytes → list_all inside bytes ≡ true → lines_in bytes ≡ bytes ∷ []
 lines_in-whole [] some all = absurd (omega arith)

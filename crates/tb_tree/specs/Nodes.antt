@@ -9,7 +9,7 @@ nodes_of (kid (elem name kids) rest) = elem name kids ∷ (nodes_of kids ++ node
 nodes_of (kid (attr name value) rest) = attr name value ∷ nodes_of rest
 nodes_of (kid (text value) rest) = text value ∷ nodes_of rest
 
--- how many elements each of them is inside of, where the first has that level
+-- the level of each of them, where those that stand beside the first have its level
 abbrev pub depths : ℕ → Plains → List ℕ
 depths level no_kids = []
 depths level (kid (elem name kids) rest) = level ∷ (depths (level + 1) kids ++ depths level rest)

@@ -11,7 +11,7 @@ use std::alloc::AllocError;
 pub fn push_escaped(value: &[u8], out: &mut Vec<u8>) -> Result<bool, AllocError>
     ensures told { IfOk result (λ told. told ≡ has_escape value.now) }
     ensures escaped { OnOk result (out.new.items ≡ out.old.items ++ escaped value.now) }
-    ensures front { IsGrown out.old.items out.new.items }
+    ensures prefix { IsGrown out.old.items out.new.items }
 {
     let mut rest = value;
     let mut told = false;
@@ -25,7 +25,7 @@ pub fn push_escaped(value: &[u8], out: &mut Vec<u8>) -> Result<bool, AllocError>
     Ok(told)
 }
 
-/// The plain bytes at the front, the first byte that isn't plain, and what follows it.
+/// The plain bytes that stand first, the first byte that isn't plain, and what follows it.
 fn next_escape(bytes: &[u8]) -> Option<(&[u8], u8, &[u8])>
     ensures { NextEscape bytes.now (option_map (λ cut. (cut.0.now, cut.1, cut.2.now)) result) }
 {
@@ -46,7 +46,7 @@ fn is_plain(byte: u8) -> bool
 fn push_escape(byte: u8, out: &mut Vec<u8>) -> Result<(), AllocError>
     requires { is_plain byte ≡ false }
     ensures escaped { OnOk result (out.new.items ≡ out.old.items ++ escaped_byte byte) }
-    ensures front { IsGrown out.old.items out.new.items }
+    ensures prefix { IsGrown out.old.items out.new.items }
 {
     match byte {
         b'\\' => out.extend_from_slice(b"\\\\"),

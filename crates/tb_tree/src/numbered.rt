@@ -18,7 +18,8 @@ impl Tree {
     pub fn node(&self, alloc: Global, number: u32) -> Result<Node, AllocError>
         requires some { 1 ≤ number }
         requires within { number ≤ count (plain_of self.now) }
-        ensures { IfOk result (λ node. plain_of node ≡ node_at (plain_of self.now) number) }
+        ensures node { IfOk result (λ node. plain_of node ≡ node_at (plain_of self.now) number) }
+        ensures sound { IfOk result (λ node. IsSound (plain_of node)) }
     {
         node_of(alloc, &self.part(number), number as usize)
     }

@@ -36,7 +36,7 @@ pub fn write_nodes(alloc: Global, nodes: &[Node], out: &mut Vec<u8>) -> Result<(
 
 fn push_nodes(nodes: &[Node], out: &mut Vec<u8>) -> Result<(), AllocError>
     ensures printed { OnOk result (out.new.items ≡ out.old.items ++ printed (plains_of nodes.now)) }
-    ensures front { IsGrown out.old.items out.new.items }
+    ensures prefix { IsGrown out.old.items out.new.items }
 {
     'nodes: for node in nodes {
         push_node(node, out)?;
@@ -48,7 +48,7 @@ fn push_nodes(nodes: &[Node], out: &mut Vec<u8>) -> Result<(), AllocError>
 pub fn push_node(node: &Node, out: &mut Vec<u8>) -> Result<(), AllocError>
     ensures printed { OnOk result (out.new.items ≡ out.old.items
         ++ printed_node (plain_of node.now)) }
-    ensures front { IsGrown out.old.items out.new.items }
+    ensures prefix { IsGrown out.old.items out.new.items }
 {
     match node {
         Node::Elem { name, kids } => {
@@ -73,7 +73,7 @@ pub fn push_node(node: &Node, out: &mut Vec<u8>) -> Result<(), AllocError>
 fn push_content(kids: &[Node], out: &mut Vec<u8>) -> Result<(), AllocError>
     ensures printed { OnOk result (out.new.items ≡ out.old.items
         ++ content_lines (plains_of kids.now)) }
-    ensures front { IsGrown out.old.items out.new.items }
+    ensures prefix { IsGrown out.old.items out.new.items }
 {
     'kids: for kid in kids {
         if is_attribute(kid) {
@@ -97,7 +97,7 @@ fn is_attribute(node: &Node) -> bool
 pub fn push_attributes(kids: &[Node], out: &mut Vec<u8>) -> Result<(), AllocError>
     ensures printed { OnOk result (out.new.items ≡ out.old.items
         ++ attribute_lines (plains_of kids.now)) }
-    ensures front { IsGrown out.old.items out.new.items }
+    ensures prefix { IsGrown out.old.items out.new.items }
 {
     'kids: for kid in kids {
         push_if_attribute(kid, out)?;
@@ -108,7 +108,7 @@ pub fn push_attributes(kids: &[Node], out: &mut Vec<u8>) -> Result<(), AllocErro
 fn push_if_attribute(node: &Node, out: &mut Vec<u8>) -> Result<(), AllocError>
     ensures printed { OnOk result (out.new.items ≡ out.old.items
         ++ attribute_lines (one (plain_of node.now))) }
-    ensures front { IsGrown out.old.items out.new.items }
+    ensures prefix { IsGrown out.old.items out.new.items }
 {
     if let Node::Attr { name, value } = node {
         push_attribute_told(name.as_slice(), value.as_slice(), out)?;
@@ -118,7 +118,7 @@ fn push_if_attribute(node: &Node, out: &mut Vec<u8>) -> Result<(), AllocError>
 
 pub fn push_named(lead: u8, name: &[u8], out: &mut Vec<u8>) -> Result<(), AllocError>
     ensures line { OnOk result (out.new.items ≡ out.old.items ++ named_line lead name.now) }
-    ensures front { IsGrown out.old.items out.new.items }
+    ensures prefix { IsGrown out.old.items out.new.items }
 {
     out.push(lead)?;
     out.extend_from_slice(name)?;
@@ -130,7 +130,7 @@ pub fn push_named(lead: u8, name: &[u8], out: &mut Vec<u8>) -> Result<(), AllocE
 pub fn push_attribute_told(name: &[u8], value: &[u8], out: &mut Vec<u8>) -> Result<bool, AllocError>
     ensures told { IfOk result (λ told. told ≡ has_escape value.now) }
     ensures line { OnOk result (out.new.items ≡ out.old.items ++ attribute_line name.now value.now) }
-    ensures front { IsGrown out.old.items out.new.items }
+    ensures prefix { IsGrown out.old.items out.new.items }
 {
     out.push(b'A')?;
     out.extend_from_slice(name)?;
@@ -144,7 +144,7 @@ pub fn push_attribute_told(name: &[u8], value: &[u8], out: &mut Vec<u8>) -> Resu
 pub fn push_data_told(value: &[u8], out: &mut Vec<u8>) -> Result<bool, AllocError>
     ensures told { IfOk result (λ told. told ≡ has_escape value.now) }
     ensures line { OnOk result (out.new.items ≡ out.old.items ++ data_line value.now) }
-    ensures front { IsGrown out.old.items out.new.items }
+    ensures prefix { IsGrown out.old.items out.new.items }
 {
     out.push(b'-')?;
     let told = push_escaped(value, out)?;
@@ -155,8 +155,8 @@ pub fn push_data_told(value: &[u8], out: &mut Vec<u8>) -> Result<bool, AllocErro
 /// More of the text whose line is the last one, and whether this has an escape.
 pub fn lengthen_data(value: &[u8], out: &mut Vec<u8>) -> Result<bool, AllocError>
     ensures told { IfOk result (λ told. told ≡ has_escape value.now) }
-    ensures line { OnOk result ((front : List ℕ) → out.old.items ≡ front ++ 10 ∷ []
-        → out.new.items ≡ (front ++ escaped value.now) ++ 10 ∷ []) }
+    ensures line { OnOk result ((before : List ℕ) → out.old.items ≡ before ++ 10 ∷ []
+        → out.new.items ≡ (before ++ escaped value.now) ++ 10 ∷ []) }
     ensures grown { OnOk result (length out.new.items ≤ length out.old.items + 1 + length (escaped value.now)) }
 {
     out.pop();

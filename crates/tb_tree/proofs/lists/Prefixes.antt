@@ -54,9 +54,9 @@ abbrev pub is_other : ℕ → ℕ → Bool
 is_other b x = not (x == b)
 
 -- before the first place that has the byte all bytes are others
-pub others-front : (b : ℕ) (bytes : List ℕ) (n : ℕ) → n ≤ length bytes → Nowhere (Passes (is_byte b) bytes) 0 n → list_all (is_other b) (take n bytes) ≡ true
-others-front b bytes zero within none = refl
-others-front b [] (suc n) within none = refl
-others-front b (x ∷ bytes) (suc n) within none =
+pub others-prefix : (b : ℕ) (bytes : List ℕ) (n : ℕ) → n ≤ length bytes → Nowhere (Passes (is_byte b) bytes) 0 n → list_all (is_other b) (take n bytes) ≡ true
+others-prefix b bytes zero within none = refl
+others-prefix b [] (suc n) within none = refl
+others-prefix b (x ∷ bytes) (suc n) within none =
     and_from (is_other b x) (list_all (is_other b) (take n bytes)) (not_from_false (x == b) (false_from_ne_true (x == b) (none 0 (omega arith) (omega arith))))
-    (others-front b bytes n (omega arith) (λ k low high passes. none (suc k) (omega arith) (omega arith) passes))
+    (others-prefix b bytes n (omega arith) (λ k low high passes. none (suc k) (omega arith) (omega arith) passes))

@@ -15,7 +15,7 @@ runs-preserved c =
     record {
       whole = written_more c.runs.out.items _ _ more _ (escaped c.in-Some.behind.now) is (escaped-cut c.runs.rest.now c.in-Some.run'.now c.in-Some.behind.now c.in-Some.byte cut) c.runs.invariant.whole;
       told = told-more c.runs.told _ _ (cut-told c.runs.rest.now c.in-Some.run'.now c.in-Some.behind.now c.in-Some.byte cut) c.runs.invariant.told;
-      front = grown c.args.out.now.items c.runs.out.items c.push_escape.new.out.items more c.runs.invariant.front is;
+      prefix = grown c.args.out.now.items c.runs.out.items c.push_escape.new.out.items more c.runs.invariant.prefix is;
     }
 
 pub returns-clause-escaped : goal.returns-clause-escaped

@@ -11,5 +11,5 @@ abbrev pub invariant-runs : goal.invariant-runs
 invariant-runs l = record {
   whole : l.out.items ++ escaped l.rest ≡ l.initial.out.items ++ escaped l.value;
   told : (l.told || has_escape l.rest) ≡ has_escape l.value;
-  front : IsGrown l.initial.out.items l.out.items;
+  prefix : IsGrown l.initial.out.items l.out.items;
 }

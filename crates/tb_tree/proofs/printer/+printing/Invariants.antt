@@ -8,5 +8,5 @@ use Rattle.tb_tree.proofs.printer.+printing.Given as goal
 abbrev pub invariant-push_content-kids : goal.invariant-push_content-kids
 invariant-push_content-kids l = record {
   whole : l.out.items ++ content_lines (plains_of (drop l.kid-index l.kids)) ≡ l.initial.out.items ++ content_lines (plains_of l.kids);
-  front : IsGrown l.initial.out.items l.out.items;
+  prefix : IsGrown l.initial.out.items l.out.items;
 }

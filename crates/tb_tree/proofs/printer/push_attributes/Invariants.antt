@@ -8,5 +8,5 @@ use Rattle.tb_tree.proofs.printer.push_attributes.Given as goal
 abbrev pub invariant-kids : goal.invariant-kids
 invariant-kids l = record {
   whole : l.out.items ++ attribute_lines (plains_of (drop l.kid-index l.kids)) ≡ l.initial.out.items ++ attribute_lines (plains_of l.kids);
-  front : IsGrown l.initial.out.items l.out.items;
+  prefix : IsGrown l.initial.out.items l.out.items;
 }

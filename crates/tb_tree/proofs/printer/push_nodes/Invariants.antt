@@ -8,5 +8,5 @@ use Rattle.tb_tree.proofs.printer.push_nodes.Given as goal
 abbrev pub invariant-nodes : goal.invariant-nodes
 invariant-nodes l = record {
   whole : l.out.items ++ printed (plains_of (drop l.node-index l.nodes)) ≡ l.initial.out.items ++ printed (plains_of l.nodes);
-  front : IsGrown l.initial.out.items l.out.items;
+  prefix : IsGrown l.initial.out.items l.out.items;
 }
