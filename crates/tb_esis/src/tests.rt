@@ -11,7 +11,7 @@ ghost use Rattle.tb_esis.specs.declared.fault.EsisFault.TheVariants.{NoMemory};
 use crate::{EsisFault, read_tree};
 use std::alloc::{AllocError, Global};
 use std::test::Fail;
-use tb_tree::{Tree, value};
+use tb_tree::{Node, Tree, Writer, value};
 
 // Lines, and what the tree prints or the fault.
 const ESCAPES: &[(&[u8], &[u8])] = &[
@@ -255,5 +255,46 @@ fn an_element_has_the_value_of_its_texts(rt: HostRuntime) -> Result<(), Fail> {
         b"Ax CDATA 1\n(a\n-a\\\\b\\nc\\|d\\|\n(b\n-\\012e\\#233;\\351\n)b\n)a",
     )?;
     assert_eq!(rt; given.as_slice(), b"a\\b\ncde\xc3\xa9\xe9".as_slice());
+    Ok(())
+}
+
+// The lines of a page on which each call of `Writer` put something of the document, or no byte where this has
+// a fault or fewer than three nodes.
+fn paged(alloc: Global, lines: &[u8]) -> Result<Vec<u8>, AllocError>
+    requires { length lines.now ≤ 67108864 }
+{
+    let Ok(tree) = read_tree(alloc, lines) else {
+        return Ok(Vec::new(alloc));
+    };
+    if tree.count() < 3 {
+        return Ok(Vec::new(alloc));
+    }
+    let mut page = Writer::new(alloc);
+    page.open_marked(b"k")?;
+    page.text(b"v")?;
+    page.close_marked(b"k")?;
+    page.attribute(b"x", b"1")?;
+    page.document_attributes(&tree, 1)?;
+    page.open(b"r")?;
+    page.text(b"t")?;
+    page.document_content(&tree, 1)?;
+    page.document_node(&tree, 3)?;
+    page.end()?;
+    let root = tree.node(alloc, 1)?;
+    page.node(&root)?;
+    if let Node::Elem { kids, .. } = &root {
+        page.attributes(kids.as_slice())?;
+        page.nodes(kids.as_slice())?;
+    }
+    page.close(b"r")?;
+    page.into_vec()
+}
+
+#[test]
+fn a_page_has_what_was_written(rt: HostRuntime) -> Result<(), Fail> {
+    let page = paged(rt.alloc(), b"Ak CDATA 1\n(r\n-x\n(b\n-y\n)b\n)r\n")?;
+    let lines =
+        b"(@k\n-v\n)@k\nAx CDATA 1\nAk CDATA 1\n(r\n-tx\n(b\n-y\n)b\n-x\nAk CDATA 1\n(r\n-x\n(b\n-y\n)b\n)r\nAk CDATA 1\n-x\n(b\n-y\n)b\n)r\n";
+    assert_eq!(rt; page.as_slice(), lines.as_slice());
     Ok(())
 }

@@ -9,7 +9,8 @@ ghost use Rattle.tb_tree.specs.Levels.{levels};
 use std::alloc::{AllocError, Global};
 use std::test::Fail;
 use tb_esis::{EsisFault, read_tree};
-use tb_label::Store;
+use tb_label::{Comparand, Prepared, Store, key, printed, printed_key, printed_value, stands};
+use tb_number::CmpOp;
 use tb_span::Item;
 use tb_tree::{Bytes, Test, Tree};
 
@@ -127,5 +128,46 @@ fn three_nested_elements_have_their_labels(rt: HostRuntime) -> Result<(), Fail> 
 fn each_test_lists_its_nodes_in_document_order(rt: HostRuntime) -> Result<(), Fail> {
     let text = shown(rt.alloc(), MIXED, &[b"b", b"k", b"x"])?;
     assert_eq!(rt; text.as_str(), MIXED_ITEMS);
+    Ok(())
+}
+
+// Whether the attribute, the text and the inner element of `MIXED` stand to numbers, bytes and values, and have
+// the keys of such, and the root that of its two texts.
+fn compared(alloc: Global) -> Result<String, AllocError> {
+    let Some(tree) = document(alloc, MIXED)? else {
+        return String::from_str(alloc, "no document");
+    };
+    if tree.count() < 4 {
+        return String::from_str(alloc, "few nodes");
+    }
+    let one = Comparand::Number(1);
+    let x = Comparand::Bytes(Prepared::new(alloc, b"x")?);
+    let value = Comparand::Value(Prepared::new(alloc, b"01")?);
+    let number = stands(alloc, &tree, 2, CmpOp::Eq, &one)?;
+    let text = stands(alloc, &tree, 3, CmpOp::Eq, &x)?;
+    let element = stands(alloc, &tree, 4, CmpOp::Le, &x)?;
+    let same = stands(alloc, &tree, 2, CmpOp::Eq, &value)?;
+    let attribute = is_key_of(alloc, &tree, 2, b"01")?;
+    let root = is_key_of(alloc, &tree, 1, b"xy")?;
+    format!(in alloc; "{number} {text} {element} {same} {attribute} {root}")
+}
+
+// Whether the node's key is that of the value.
+fn is_key_of(alloc: Global, tree: &Tree, number: u32, value: &[u8]) -> Result<bool, AllocError>
+    requires some { 1 ≤ number }
+    requires within { number ≤ count (plain_of tree.now) }
+{
+    let outside = printed(alloc, value)?;
+    let whole = printed_value(alloc, tree, number)?;
+    match key(tree, number) {
+        Some(key) => Ok(key == printed_key(&outside)),
+        None => Ok(printed_key(&whole) == printed_key(&outside)),
+    }
+}
+
+#[test]
+fn values_are_compared_and_have_keys(rt: HostRuntime) -> Result<(), Fail> {
+    let told = compared(rt.alloc())?;
+    assert_eq!(rt; told.as_str(), "true true false true true true");
     Ok(())
 }
