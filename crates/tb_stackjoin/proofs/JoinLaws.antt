@@ -4,7 +4,7 @@ use Rattle.std.proofs.lemmas.Bool.{cases_lt}
 use Rattle.std.proofs.lemmas.List.Elements.{filter_passes}
 use Rattle.tb_span.specs.Span.{Span, Nests}
 use Rattle.tb_span.specs.Lists.{AreJoinable, is_related}
-use Rattle.tb_span.specs.Seeds.{no_item, label_at, places, IsSeed}
+use Rattle.tb_span.specs.Seeds.{no_item, label_at, places, range, IsSeed}
 use Rattle.tb_span.specs.declared.item.Axis.{Axis}
 use Rattle.tb_span.specs.declared.item.Item.{Item}
 use Rattle.tb_span.specs.declared.item.Pair.{Pair}
@@ -16,7 +16,7 @@ use Rattle.tb_stackjoin.proofs.KeptLaws.{kept_all, seed_kept}
 use Rattle.tb_stackjoin.proofs.PairLaws.{above-stack, pairs-more}
 
 -- a seed is a stack
-pub seed_stack : (a d : List Item) (seed : List ℕ) (from lo hi : ℕ) → AreJoinable a d → from ≤ length a → lo ≤ hi → IsSeed a d seed from lo hi → IsStack a from seed
+pub seed_stack : (a d : List Item) (seed : List ℕ) (from lo hi : ℕ) → AreJoinable a d → from ≤ length a → lo ≤ hi → IsSeed a d seed from (range lo hi) → IsStack a from seed
 seed_stack a d seed from lo hi ok within range seeded = at (cases_lt lo hi)
   where
     at : (lo < hi) ⊎ (hi ≤ lo) → IsStack a from seed
@@ -24,12 +24,12 @@ seed_stack a d seed from lo hi ok within range seeded = at (cases_lt lo hi)
     at (inr none) = subst (λ xs. IsStack a from xs) (sym (seeded.none (omega arith))) (IsStack-nil a from)
 
 -- the ancestors before `from` start before each descendant of the range
-pub seed_started : (a d : List Item) (seed : List ℕ) (from lo hi : ℕ) → AreJoinable a d → hi ≤ length d → IsSeed a d seed from lo hi
+pub seed_started : (a d : List Item) (seed : List ℕ) (from lo hi : ℕ) → AreJoinable a d → hi ≤ length d → IsSeed a d seed from (range lo hi)
     → (j : ℕ) → lo ≤ j → j < hi → (k : ℕ) → k < from → (label_at a k).start < (label_at d j).start
 seed_started a d seed from lo hi ok within seeded j low high k less =
     omega (arith, seeded.started (omega arith) k less, start_rises d lo j ok.descendants_sorted low (omega arith))
 
-pub seed_all : (a d : List Item) (seed stack : List ℕ) (from lo hi : ℕ) → AreJoinable a d → from ≤ length a → hi ≤ length d → IsSeed a d seed from lo hi → stack ≡ seed
+pub seed_all : (a d : List Item) (seed stack : List ℕ) (from lo hi : ℕ) → AreJoinable a d → from ≤ length a → hi ≤ length d → IsSeed a d seed from (range lo hi) → stack ≡ seed
     → (j : ℕ) → lo ≤ j → j < hi → (label_at d j).start < (label_at d j).end
     → filter (lasts a (label_at d j).start) stack ≡ filter (lasts a (label_at d j).start) (places from)
 seed_all a d seed stack from lo hi ok low within seeded same j first last some =

@@ -2,7 +2,7 @@
 
 ghost use Rattle.std.specs.Prelude.{◌≡◌, ◌+◌, [], ◌<◌, ◌≤◌, ◌^◌, IfOk, length, map};
 ghost use Rattle.tb_span.specs.Lists.{AreJoinable};
-ghost use Rattle.tb_span.specs.Seeds.{IsSeed};
+ghost use Rattle.tb_span.specs.Seeds.{IsSeed, range};
 
 mod checked;
 
@@ -27,7 +27,7 @@ fn seed_of(alloc: Global, a: &[Known], d: &[Known], lo: u32) -> Result<Seed, All
     requires within { lo ≤ length d.now }
     ensures from { IfOk result (λ seed. seed.from ≤ length a.now) }
     ensures seed { IfOk result (λ seed. IsSeed (map (λ u. u.item) a.now) (map (λ u. u.item) d.now)
-        seed.places.items seed.from lo (length d.now)) }
+        seed.places.items seed.from (range lo (length d.now))) }
 {
     if lo as usize == d.len() {
         return Ok(Seed {
