@@ -1,0 +1,5 @@
+-- Laws of orders.
+pub mod CountLaws
+pub mod NumberLaws
+pub mod OrderLaws
+pub mod MarkLaws
