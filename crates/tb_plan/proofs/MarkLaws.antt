@@ -1,6 +1,5 @@
 -- Entries with their marks, and what is left when the marks are taken away.
-use Rattle.std.proofs.Common.{◌≡◌, ℕ, ◌+◌, ◌-◌, ◌^◌, ◌<◌, ◌≤◌, Bool, true, false, ◌||◌, nat_eq, nat_lt, cond, ◌⊎◌, inl, inr, ◌↔◌, All, List, [], ◌∷◌, ◌++◌, length, get_or, take, drop, set, map, refl, sym, ap, ap₂, subst, ◌∙◌, arith, append-nil, length-append}
-use Rattle.std.specs.List.{range_with_len, list_any}
+use Rattle.std.proofs.Common.{◌≡◌, ℕ, ◌+◌, ◌-◌, ◌^◌, ◌<◌, ◌≤◌, Bool, true, false, ◌||◌, nat_eq, nat_lt, cond, ◌⊎◌, inl, inr, ◌↔◌, All, List, [], ◌++◌, length, get_or, take, drop, set, map, refl, sym, ap, ap₂, subst, ◌∙◌, arith, append-nil, length-append}
 use Rattle.std.proofs.lemmas.Bool.{cases_eq, cases_Bool, ne_eqb, eq-eqb, le-ltb, lt-ltb, cond-true, cond-false, or_right}
 use Rattle.std.proofs.lemmas.List.{length-set, length-map, get_or-set_same, get_or-set_other, get_or-map, take-append-drop, take_all, drop_all}
 use Rattle.std.proofs.lemmas.List.Elements.{All-get_or, All-from_get_or, All-same, All-map, All-weaker}
@@ -45,22 +44,25 @@ marked-more xs cur i n within is number less =
   where
     new : ℕ
     new = get_or xs n 0 + 2 ^ 31
+
     long : length cur ≡ length xs
     long = ap length is ∙ length-marked (take i xs) xs
+
     more : (k : ℕ) → has (take (i + 1) xs) k ≡ (has (take i xs) k || nat_eq n k)
     more k = list_any_more (λ x. nat_eq x k) xs i 0 within ∙ ap (λ x. has (take i xs) k || nat_eq x k) (sym number)
+
     by : (k : ℕ) → k < length xs → (n ≡ k) ⊎ (n ≡ k → ⊥) → get_or (set cur n new) k 0 ≡ get_or xs k 0 + mark (take (i + 1) xs) k
     by k low (inl same) =
-      let seen : has (take (i + 1) xs) k ≡ true = more k ∙ or_right (has (take i xs) k) (nat_eq n k) (eq-eqb n k same) in
-      let marks : mark (take (i + 1) xs) k ≡ 2 ^ 31 = ap (λ b. cond b (2 ^ 31) 0) seen in
-      subst (λ j. get_or (set cur n new) j 0 ≡ get_or xs j 0 + 2 ^ 31) same (get_or-set_same cur n new 0 (omega (arith, long, less)))
-      ∙ omega (arith, marks)
+        let seen : has (take (i + 1) xs) k ≡ true = more k ∙ or_right (has (take i xs) k) (nat_eq n k) (eq-eqb n k same) in
+        let marks : mark (take (i + 1) xs) k ≡ 2 ^ 31 = ap (λ b. cond b (2 ^ 31) 0) seen in
+        subst (λ j. get_or (set cur n new) j 0 ≡ get_or xs j 0 + 2 ^ 31) same (get_or-set_same cur n new 0 (omega (arith, long, less)))
+        ∙ omega (arith, marks)
     by k low (inr other) =
-      let old : has (take (i + 1) xs) k ≡ has (take i xs) k = more k ∙ ap (λ b. has (take i xs) k || b) (ne_eqb n k other) ∙ or-false (has (take i xs) k) in
-      get_or-set_other cur n k new 0 (λ e. other (sym e))
-      ∙ ap (λ ys. get_or ys k 0) is
-      ∙ get_or-marked (take i xs) xs k 0 low
-      ∙ ap (λ b. get_or xs k 0 + cond b (2 ^ 31) 0) (sym old)
+        let old : has (take (i + 1) xs) k ≡ has (take i xs) k = more k ∙ ap (λ b. has (take i xs) k || b) (ne_eqb n k other) ∙ or-false (has (take i xs) k) in
+        get_or-set_other cur n k new 0 (λ e. other (sym e))
+        ∙ ap (λ ys. get_or ys k 0) is
+        ∙ get_or-marked (take i xs) xs k 0 low
+        ∙ ap (λ b. get_or xs k 0 + cond b (2 ^ 31) 0) (sym old)
 
 -- The numbers of a list that is no longer than 2^31, each below its length, some of which have marked their entries.
 module _ (xs : List ℕ) (few : length xs ≤ 2 ^ 31) (below : All (λ n. n < length xs) xs) where
@@ -91,13 +93,13 @@ raise n = n + 2 ^ 31
 -- the marks of all entries are taken away
 pub lowered-all : (xs ys : List ℕ) (i : ℕ) → xs ≡ map (λ n. n + 2 ^ 31) (take i ys) ++ drop i ys → length xs ≤ i → xs ≡ map (λ n. n + 2 ^ 31) ys
 lowered-all xs ys i is reached =
-        let long : length ys ≤ i = omega (arith, ap length is, length-append (map raise (take i ys)) (drop i ys), length-map (take i ys) raise, length-append (take i ys) (drop i ys), ap length (take-append-drop i ys)) in
+    let long : length ys ≤ i = omega (arith, ap length is, length-append (map raise (take i ys)) (drop i ys), length-map (take i ys) raise, length-append (take i ys) (drop i ys), ap length (take-append-drop i ys)) in
     is ∙ ap₂ (λ zs ws. map raise zs ++ ws) (take_all i ys long) (drop_all i ys long) ∙ append-nil (map raise ys)
 
 -- what 2^31 was added to is no less
 pub raised-all : (xs ys : List ℕ) → xs ≡ map (λ n. n + 2 ^ 31) ys → All (λ n. 2 ^ 31 ≤ n) xs
 raised-all xs ys is =
-        All-same (λ n. 2 ^ 31 ≤ n) xs (map raise ys) is (All-map (λ n. 2 ^ 31 ≤ n) raise ys (All-from_get_or (λ n. 2 ^ 31 ≤ n + 2 ^ 31) ys 0 (λ k low. omega arith)))
+    All-same (λ n. 2 ^ 31 ≤ n) xs (map raise ys) is (All-map (λ n. 2 ^ 31 ≤ n) raise ys (All-from_get_or (λ n. 2 ^ 31 ≤ n + 2 ^ 31) ys 0 (λ k low. omega arith)))
 
 -- all entries are marked just where each place has its number
 pub all-marked : (xs : List ℕ) → All (λ n. n < 2 ^ 31) xs → All (λ n. 2 ^ 31 ≤ n) (marked xs xs) → (k : ℕ) → k < length xs → has xs k ≡ true
@@ -106,26 +108,26 @@ all-marked xs low marks k within = by (cases_Bool (has xs k))
     by : (has xs k ≡ true) ⊎ (has xs k ≡ false) → has xs k ≡ true
     by (inl there) = there
     by (inr none) =
-      let entry = get_or-marked xs xs k 0 within in
-      let bare = ap (λ b. cond b (2 ^ 31) 0) none in
-      let more = All-get_or (λ n. 2 ^ 31 ≤ n) (marked xs xs) k 0 (omega (arith, length-marked xs xs)) marks in
-      absurd (omega (arith, entry, bare, more, All-get_or (λ n. n < 2 ^ 31) xs k 0 within low))
+        let entry = get_or-marked xs xs k 0 within in
+        let bare = ap (λ b. cond b (2 ^ 31) 0) none in
+        let more = All-get_or (λ n. 2 ^ 31 ≤ n) (marked xs xs) k 0 (omega (arith, length-marked xs xs)) marks in
+        absurd (omega (arith, entry, bare, more, All-get_or (λ n. n < 2 ^ 31) xs k 0 within low))
 
 pub marked-all : (xs : List ℕ) → ((k : ℕ) → k < length xs → has xs k ≡ true) → All (λ n. 2 ^ 31 ≤ n) (marked xs xs)
 marked-all xs each =
     All-from_get_or (λ n. 2 ^ 31 ≤ n) (marked xs xs) 0 (λ k low.
-        let within : k < length xs = omega (arith, length-marked xs xs) in
-        let marks = ap (λ b. cond b (2 ^ 31) 0) (each k within) in
-        omega (arith, get_or-marked xs xs k 0 within, marks))
+    let within : k < length xs = omega (arith, length-marked xs xs) in
+    let marks = ap (λ b. cond b (2 ^ 31) 0) (each k within) in
+    omega (arith, get_or-marked xs xs k 0 within, marks))
 
 -- the list itself, where all of its entries had marks
 pub lowered-marked : (xs ys : List ℕ) → ((k : ℕ) → k < length xs → has xs k ≡ true) → marked xs xs ≡ map (λ n. n + 2 ^ 31) ys → ys ≡ xs
 lowered-marked xs ys each is =
     let long : length ys ≡ length xs = sym (length-map ys raise) ∙ ap length (sym is) ∙ length-marked xs xs in
     fill_by_all (λ k. get_or xs k 0) ys (length xs) 0 long (λ k low.
-        let marks = ap (λ b. cond b (2 ^ 31) 0) (each k low) in
-        let both = sym (get_or-marked xs xs k 0 low) ∙ ap (λ zs. get_or zs k 0) is ∙ get_or-map raise ys k 0 0 (omega (arith, long, low)) in
-        omega (arith, marks, both))
+    let marks = ap (λ b. cond b (2 ^ 31) 0) (each k low) in
+    let both = sym (get_or-marked xs xs k 0 low) ∙ ap (λ zs. get_or zs k 0) is ∙ get_or-map raise ys k 0 0 (omega (arith, long, low)) in
+    omega (arith, marks, both))
     ∙ sym (fill_by_all (λ k. get_or xs k 0) xs (length xs) 0 refl (λ k low. refl))
 
 -- After all numbers have marked theirs, the list is an order just where all entries are marked.
@@ -135,9 +137,10 @@ module _ (xs cur : List ℕ) (few : length xs ≤ 2 ^ 31) (below : All (λ n. n 
       all-marked xs (All-weaker (λ n. n < length xs) (λ n. n < 2 ^ 31) (λ n low. omega arith) xs below) (All-same (λ n. 2 ^ 31 ≤ n) (marked xs xs) cur (sym is) marks)
 
   pub marks-tell : All (λ n. 2 ^ 31 ≤ n) cur ↔ IsOrder xs
-  marks-tell =
-      ((λ marks. each-order (length xs) xs refl (each-marked marks)),
-       (λ order. All-same (λ n. 2 ^ 31 ≤ n) cur (marked xs xs) is (marked-all xs (order-each (length xs) xs order))))
+  marks-tell = (
+    (λ marks. each-order (length xs) xs refl (each-marked marks)),
+    (λ order. All-same (λ n. 2 ^ 31 ≤ n) cur (marked xs xs) is (marked-all xs (order-each (length xs) xs order))),
+  )
 
   pub marks-keep : (ys : List ℕ) → All (λ n. 2 ^ 31 ≤ n) cur → cur ≡ map (λ n. n + 2 ^ 31) ys → ys ≡ xs
   marks-keep ys marks lowered = lowered-marked xs ys (each-marked marks) (sym is ∙ lowered)

@@ -16,7 +16,7 @@ fn pattern(alloc: Global, text: &[u8]) -> Result<Pattern, Fail>
     ensures few { IfOk result (λ p. edge_count (edges_of p.edges) ≤ 64) }
 {
     if text.len() > 65_536 {
-        Err("too long")?;
+        return Err("too long".into());
     }
     let Ok(found) = tokens(alloc, text) else {
         return Err("no tokens".into());

@@ -1,4 +1,4 @@
-use Rattle.std.proofs.Common.{◌≡◌, length, take, ap, ◌∙◌, arith}
+use Rattle.std.proofs.Common.{length, take, ap, ◌∙◌, arith}
 use Rattle.tb_plan.proofs.MarkLaws.{length-marked, marked-none, number-read, marked-step}
 use Rattle.tb_plan.proofs.permutation.mark_each.Goals as goal
 
