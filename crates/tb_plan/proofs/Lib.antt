@@ -3,3 +3,4 @@ pub mod CountLaws
 pub mod NumberLaws
 pub mod OrderLaws
 pub mod MarkLaws
+pub mod WorkedRows
