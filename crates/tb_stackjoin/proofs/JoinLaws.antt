@@ -66,8 +66,8 @@ stack-above a d next after j old new v ok within last is some h left passed star
 pub paired-more : (axis : Axis) (a d : List Item) (lo next after j : ℕ) (old stack new : List ℕ) (v : Span) (had have : List Pair) → AreJoinable a d → lo ≤ j → next ≤ length a
     → v ≡ label_at d j → v.start < v.end → HasPushed a next v.start old stack after → new ≡ filter (lasts a v.start) stack
     → ((label_at d j).start < (label_at d j).end → filter (lasts a (label_at d j).start) old ≡ filter (lasts a (label_at d j).start) (places next))
-    → had ≡ pairs_by_descendant axis a d lo j → have ≡ had ++ map (λ i. pair i j) (filter (λ i. is_related axis (label_at a i) v) new)
-    → have ≡ pairs_by_descendant axis a d lo (j + 1)
+    → had ≡ pairs_by_descendant axis a d (range lo j) → have ≡ had ++ map (λ i. pair i j) (filter (λ i. is_related axis (label_at a i) v) new)
+    → have ≡ pairs_by_descendant axis a d (range lo (j + 1))
 paired-more axis a d lo next after j old stack new v had have ok low start is some pushed left kept pairs added =
     let within : after ≤ length a = omega (arith, pushed.is, run_within a next v.start start) in
     let before : filter (lasts a v.start) old ≡ filter (lasts a v.start) (places next) =
@@ -77,5 +77,5 @@ paired-more axis a d lo next after j old stack new v had have ok low start is so
     let mine : filter (λ i. is_related axis (label_at a i) v) new ≡ above axis a v =
     above-stack axis a v after new some within (λ k behind less. run_rest a next v.start k ok.ancestors_sorted start (omega (arith, pushed.is)) less) open_now in
     added ∙ ap (λ ps. ps ++ map (λ i. pair i j) (filter (λ i. is_related axis (label_at a i) v) new)) pairs
-    ∙ ap (λ xs. pairs_by_descendant axis a d lo j ++ map (λ i. pair i j) xs) (mine ∙ ap (λ w. above axis a w) is)
+    ∙ ap (λ xs. pairs_by_descendant axis a d (range lo j) ++ map (λ i. pair i j) xs) (mine ∙ ap (λ w. above axis a w) is)
     ∙ sym (pairs-more axis a d lo j low)

@@ -31,8 +31,8 @@ pub fn join_desc<L: Ledger>(
     requires joinable { AreJoinable a.now d.now }
     requires range { (lo ≤ hi) × (hi ≤ length d.now) × (from ≤ length a.now) }
     requires seeded { IsSeed a.now d.now seed.now from (range lo hi) }
-    ensures pairs { IfOk result (λ pairs. pairs.items ≡ pairs_by_descendant axis a.now d.now lo hi) }
-    ensures cost { steps.new ≤ steps.old + most_steps a.now d.now seed.now from lo hi }
+    ensures pairs { IfOk result (λ pairs. pairs.items ≡ pairs_by_descendant axis a.now d.now (range lo hi)) }
+    ensures cost { steps.new ≤ steps.old + most_steps a.now d.now seed.now from (range lo hi) }
 {
     let mut stack = Stack::from_slice(alloc, seed)?;
     let mut next = from;

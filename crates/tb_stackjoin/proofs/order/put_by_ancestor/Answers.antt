@@ -1,9 +1,8 @@
 -- The sort is std's, which is stable; pairs that rise already are left as they are.
 use Rattle.std.proofs.Common.{rules, refl, sym}
 use Rattle.std.proofs.lemmas.List.Sorted.{IsPermutation-refl, IsNonDecreasingBy-from_sort_by_key, answers_always}
-use Rattle.tb_stackjoin.proofs.SortLaws.{by_stable_sort}
-use Rattle.tb_top.proofs.JoinedLaws.{rises-from_test}
-use Rattle.tb_top.proofs.matching.put_by_ancestor.Goals as goal
+use Rattle.tb_stackjoin.proofs.SortLaws.{by_stable_sort, rises-from_test}
+use Rattle.tb_stackjoin.proofs.order.put_by_ancestor.Goals as goal
 
 pub returns-then-is_sorted_by_key : goal.returns-then-is_sorted_by_key
 returns-then-is_sorted_by_key c = record {
