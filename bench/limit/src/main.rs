@@ -3,20 +3,15 @@
 //! It settles scripts of sessions that load documents, each without a fault, and prints what `timber single`
 //! prints of them, so `bench/load` compares the outputs byte for byte. All tests for faults are there.
 
-mod escapes;
-mod lines;
-mod names;
-mod reader;
-mod store;
-
-use lines::{cut_body, next_line};
+use limit::lines::{cut_body, next_line};
+use limit::reader;
+use limit::store::Store;
 use std::fs::File;
 use std::hint::black_box;
 use std::io::{self, Read, Write};
 use std::mem::forget;
 use std::os::fd::AsFd;
 use std::process::ExitCode;
-use store::Store;
 
 struct Load {
     name: Vec<u8>,

@@ -14,8 +14,7 @@ pub enum Kind {
     Text,
 }
 
-/// Where a node's lines stand. Nothing here reads all of it: queries would.
-#[allow(dead_code)]
+/// Where a node's lines stand.
 #[derive(Clone, Copy)]
 pub struct Extent {
     pub from: u32,
@@ -28,7 +27,6 @@ pub struct Extent {
 }
 
 /// The printed lines, the extents of the nodes in document order, and the names by number.
-#[allow(dead_code)]
 pub struct Document {
     pub text: Vec<u8>,
     pub extents: Vec<Extent>,

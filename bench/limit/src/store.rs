@@ -3,7 +3,6 @@
 use crate::reader::{Document, Kind};
 
 /// The label of a node, and its number.
-#[allow(dead_code)]
 #[derive(Clone, Copy)]
 pub struct Item {
     pub start: u32,
@@ -12,7 +11,6 @@ pub struct Item {
     pub node: u32,
 }
 
-#[allow(dead_code)]
 pub struct Store {
     pub document: Document,
     pub elements: Vec<Vec<Item>>,
@@ -44,5 +42,19 @@ impl Store {
             }
         }
         Store { document, elements, all_elements, attributes, all_attributes, texts }
+    }
+
+    /// The elements of a name, by start.
+    pub fn named(&self, name: &[u8]) -> &[Item] {
+        match self.document.elements.iter().position(|known| known == name) {
+            Some(number) => &self.elements[number],
+            None => &[],
+        }
+    }
+
+    /// The printed lines of a node.
+    pub fn printed(&self, number: u32) -> &[u8] {
+        let extent = &self.document.extents[number as usize - 1];
+        &self.document.text[extent.from as usize..extent.to as usize]
     }
 }

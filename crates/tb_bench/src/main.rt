@@ -1,8 +1,9 @@
 //! `tb_bench`: times the engine's calls one by one, for `bench/`.
 //!
 //! It reads a document on standard input, labels it, and joins its elements `part` with its elements `item`.
-//! With the word `script` it reads a script instead, and puts its commands in order. What it found goes to
-//! standard output, and how long each call took, in nanoseconds, to standard error.
+//! With the word `join` it times one join of the elements that two further words name. With the word `script` it
+//! reads a script instead, and puts its commands in order. What it found goes to standard output, and how long
+//! each call took, in nanoseconds, to standard error.
 #![tactic(auto)]
 
 ghost use Rattle.std.specs.Prelude.{◌≡◌, ◌^◌, ◌<◌, ◌≤◌, IfOk, IfSome};
@@ -12,18 +13,20 @@ ghost use Rattle.tb_tree.specs.Numbers.{count};
 ghost use Rattle.tb_tree.specs.Levels.{levels};
 
 use std::alloc::{AllocError, Global};
+use std::io;
 use std::process::ExitCode;
 use std::time::Instant;
-use std::{env, io};
 use tb_edge::{HostSource, read_up_to};
 use tb_esis::read_tree;
 use tb_label::Store;
-use tb_span::{Axis, Pair};
-use tb_stackjoin::whole_join;
+use tb_span::Axis;
+use tb_stackjoin::By;
 use tb_tree::{Bytes, Kind, Test, Tree};
 
+mod join;
 mod script;
 
+use join::{is_word, time_lists, time_one_join};
 use script::time_script;
 
 /// Bytes of a document or a script at most.
@@ -35,24 +38,23 @@ fn main(rt: HostRuntime) -> io::Result<ExitCode> {
         eprintln!(rt; "no input")?;
         return Ok(ExitCode::FAILURE);
     };
-    if is_script_wanted(&rt)? {
+    if is_word(&rt, 1, "script")? {
         return time_script(&rt, &lines);
     }
     let Some(tree) = time_read(&rt, lines)? else {
         return Ok(ExitCode::FAILURE);
     };
+    if is_word(&rt, 1, "join")? {
+        let store = time_label(&rt, tree)?;
+        time_one_join(&rt, &store)?;
+        return Ok(ExitCode::SUCCESS);
+    }
     tell_text(&rt, &tree)?;
     let store = time_label(&rt, tree)?;
     tell_counts(&rt, &store)?;
     time_join(&rt, &store, "descendant", Axis::Descendant)?;
     time_join(&rt, &store, "child", Axis::Child)?;
     Ok(ExitCode::SUCCESS)
-}
-
-/// Whether the first word is `script`.
-fn is_script_wanted(rt: &HostRuntime) -> io::Result<bool> {
-    let word = env::args(rt)?.nth(1);
-    Ok(word.is_some_and(|word| word.as_str() == "script"))
 }
 
 /// Reads the document of the lines, or says why there is none. The lines are freed.
@@ -136,22 +138,7 @@ fn named(alloc: Global, name: &[u8]) -> Result<Test, AllocError> {
 fn time_join(rt: &HostRuntime, store: &Store, name: &str, axis: Axis) -> io::Result<()> {
     let part = named(rt.alloc(), b"part")?;
     let item = named(rt.alloc(), b"item")?;
-    let start = Instant::now(rt)?;
-    let pairs = whole_join(rt.alloc(), store.list(&part), store.list(&item), axis)?;
-    let took = start.elapsed(rt)?;
-    println!(rt; "{name} {}", pairs.len())?;
-    println!(rt; "{name}-sum {}", pairs_sum(&pairs))?;
-    eprintln!(rt; "{name} {}", took.as_nanos())
-}
-
-/// A number that differs where the pairs do, most likely.
-fn pairs_sum(pairs: &[Pair]) -> u64 {
-    let mut sum = 1u64;
-    'pairs: for pair in pairs {
-        sum = sum.wrapping_mul(31).wrapping_add(u64::from(pair.a));
-        sum = sum.wrapping_mul(31).wrapping_add(u64::from(pair.d));
-    }
-    sum
+    time_lists(rt, store, name, &part, &item, axis, By::Desc)
 }
 
 /// A number that differs where the bytes do, most likely.

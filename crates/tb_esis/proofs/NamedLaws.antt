@@ -1,18 +1,20 @@
 -- The names of the open elements, and the end that may come next.
-use Rattle.std.proofs.Common.{◌≡◌, ℕ, ◌+◌, ◌≤◌, Bool, true, false, not, nat_le, ◌==◌, List, [], ◌∷◌, ◌++◌, length, Option, Some, None, Bor, Ok, refl, ap, ◌∙◌, subst, arith, length-append}
+use Rattle.std.proofs.Common.{◌≡◌, ℕ, ◌+◌, Bool, true, false, ◌==◌, List, [], ◌∷◌, ◌++◌, length, Option, Some, None, Bor, Ok, refl, ap, ◌∙◌, subst, arith, length-append}
 use Rattle.std.specs.List.{list_all}
-use Rattle.std.proofs.lemmas.Bool.{and_parts, and_from, false≢true, leb-true, ne_eqb}
+use Rattle.std.proofs.lemmas.Bool.{and_parts, and_from, false≢true}
 use Rattle.std.proofs.lemmas.Slice.Eq.{bytes_eq-Decides}
 use Rattle.tb_tree.specs.Plain.{Plain}
-use Rattle.tb_tree.specs.Names.{is_name, is_name_byte}
+use Rattle.tb_tree.specs.Names.{is_name}
 use Rattle.tb_tree.specs.Making.{Frame, Made, put, text_of, is_innermost, innermost_name, with_text_ended, with_element_ended, with_frames_ended}
 use Rattle.tb_tree.specs.Drafts.{Shows}
 use Rattle.tb_tree.proofs.LineLaws.{is_inner, cuts-behind}
+use Rattle.tb_tree.proofs.PrintedBytes.{name_bytes-inner}
 use Rattle.tb_esis.specs.Lines.{Line, opens, closes, attribute, characters, conforms, passed_over, is_implied}
 use Rattle.tb_esis.specs.Faults.{fault_at}
 use Rattle.tb_esis.specs.Machine.{made_behind, open_of}
 use Rattle.tb_esis.specs.Readers.{are_named, MayClose, IsTaken, TakesLine}
 use Rattle.tb_esis.specs.declared.reader.Reader.{Reader}
+use Rattle.tb_esis.proofs.PrintedLines.{name-all}
 use Rattle.tb_esis.proofs.SoundLaws.{no_start_fault}
 
 put-named : (nodes : List Plain) (fs : List Frame) → are_named (put nodes fs) ≡ are_named fs
@@ -37,27 +39,11 @@ frames-named m (characters raw) none all = all
 frames-named m conforms none all = all
 frames-named m passed_over none all = all
 
--- a name has no end of a line
-inner-byte : (b : ℕ) → is_name_byte b ≡ true → is_inner b ≡ true
-inner-byte b named =
-    let high : 33 ≤ b = leb-true 33 b (and_parts (nat_le 33 b) _ (and_parts _ _ named).0).0 in
-    and_from (not (b == 10)) (not (b == 13)) (ap not (ne_eqb b 10 (λ e. omega (arith, e, high)))) (ap not (ne_eqb b 13 (λ e. omega (arith, e, high))))
-
-inner-bytes : (name : List ℕ) → list_all is_name_byte name ≡ true → list_all is_inner name ≡ true
-inner-bytes [] all = refl
-inner-bytes (b ∷ name) all =
-    let parts = and_parts (is_name_byte b) (list_all is_name_byte name) all in
-    and_from (is_inner b) (list_all is_inner name) (inner-byte b parts.0) (inner-bytes name parts.1)
-
-name-bytes : (name : List ℕ) → is_name name ≡ true → list_all is_name_byte name ≡ true
-name-bytes [] e = refl
-name-bytes (b ∷ name) e = e
-
 innermost-inner : (fs : List Frame) (name : List ℕ) → innermost_name fs ≡ Some name → are_named fs ≡ true → list_all is_inner name ≡ true
 innermost-inner [] name e all = absurd (let d : ◌≡◌ {A = Option (List ℕ)} None (Some name) = e in cc)
 innermost-inner (f ∷ fs) name e all =
     let same : f.name ≡ name = (let d : ◌≡◌ {A = Option (List ℕ)} (Some f.name) (Some name) = e in cc) in
-    inner-bytes name (name-bytes name (subst (λ n. is_name n ≡ true) same (and_parts (is_name f.name) (are_named fs) all).0))
+    name_bytes-inner name (name-all name (subst (λ n. is_name n ≡ true) same (and_parts (is_name f.name) (are_named fs) all).0))
 
 innermost-is : (fs : List Frame) (name : List ℕ) → innermost_name fs ≡ Some name → is_innermost name fs ≡ true
 innermost-is [] name e = absurd (let d : ◌≡◌ {A = Option (List ℕ)} None (Some name) = e in cc)

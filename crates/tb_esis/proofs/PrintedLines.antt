@@ -1,14 +1,14 @@
 -- The lines of printed nodes: what each of them says, in order.
 use Rattle.std.proofs.Common.{◌≡◌, ℕ, true, not, ◌==◌, List, [], ◌∷◌, ◌++◌, filter, codes, refl, ap, ◌∙◌, append_assoc}
 use Rattle.std.specs.List.{list_all}
-use Rattle.std.proofs.lemmas.Bool.{and_parts, and_from, and_left, not-true}
+use Rattle.std.proofs.lemmas.Bool.{and_parts, and_from}
 use Rattle.std.proofs.lemmas.List.Folds.{list_all-append}
-use Rattle.tb_tree.specs.TextLines.{lines_in, begins_with_end}
 use Rattle.tb_tree.specs.Plain.{elem, attr, text, Plains, no_kids, kid}
 use Rattle.tb_tree.specs.Names.{is_name_byte, is_name}
 use Rattle.tb_tree.specs.Sound.{attribute_names, are_different, attributes_first, texts_apart, is_sound, are_sound}
 use Rattle.tb_tree.specs.Printed.{escaped, start_line, end_line, attribute_line, data_line, attribute_lines, content_lines}
 use Rattle.tb_esis.specs.Lines.{Line, opens, closes, attribute, characters, before_space, behind_space, line_of, is_kept, document_lines}
+use Rattle.tb_tree.proofs.LineLaws.{lines-behind}
 use Rattle.tb_tree.proofs.PrintedBytes.{is_inner, escaped-inner, name_bytes-inner, name_byte-space}
 
 -- the lines of a document but for those that are passed over
@@ -46,20 +46,12 @@ element_parts name kids e =
     let d = and_parts (is_name name) (attributes_first kids) c.0 in
     record { named = d.0; first = d.1; different = c.1; apart = b.1; sound = a.1 }
 
--- A line without line ends within it is one line, as it stands.
-lines_in-line : (line rest : List ℕ) → list_all is_inner line ≡ true → lines_in (line ++ 10 ∷ rest) ≡ line ∷ lines_in rest
-lines_in-line [] rest all = refl
-lines_in-line (b ∷ line) rest all =
-    let parts = and_parts (is_inner b) (list_all is_inner line) all in
-    let here = and_parts (not (b == 10)) (not (b == 13)) parts.0 in
-    rw (not-true (b == 10) here.0, and_left (b == 13) (begins_with_end (line ++ 10 ∷ rest)) (not-true (b == 13) here.1), lines_in-line line rest parts.1) refl
-
 kept_lines-line : (bytes line : List ℕ) (said : Line) (rest : List ℕ) → bytes ≡ line ++ 10 ∷ rest → list_all is_inner line ≡ true → line_of line ≡ said → is_kept said ≡ true
     → kept_lines bytes ≡ said ∷ kept_lines rest
-kept_lines-line bytes line said rest is all says kept = rw (is, lines_in-line line rest all, says, kept) refl
+kept_lines-line bytes line said rest is all says kept = rw (is, lines-behind line rest all, says, kept) refl
 
 -- names have no line end and no space
-name-all : (name : List ℕ) → is_name name ≡ true → list_all is_name_byte name ≡ true
+pub name-all : (name : List ℕ) → is_name name ≡ true → list_all is_name_byte name ≡ true
 name-all [] e = refl
 name-all (b ∷ name) e = e
 

@@ -15,7 +15,7 @@ use Rattle.tb_query.specs.declared.clause.Clause.{Clause}
 use Rattle.tb_query.specs.declared.clause.Clause.TheVariants.{For, Let}
 use Rattle.tb_query.specs.declared.path.Path.{Path}
 use Rattle.tb_flwor.specs.Value.{BoundNames, bind_from, more_binds, clause_from, more_clauses}
-use Rattle.tb_flwor.specs.Built.{Gives, GivesAll, IsLongpath, allowing, IsAllowed, AreBinds, AreMoreClauses, BuildsClauses}
+use Rattle.tb_flwor.specs.Built.{Gives, GivesAll, IsLongpath, allowing, IsAllowed, AreBinds, BuildsClauses}
 use Rattle.tb_pattern.proofs.RunLaws.{ListSoFar, Puts, list-start, list-next, list-end, behind-next, behind-end}
 
 -- [ ALLOWING EMPTY ]

@@ -1,5 +1,5 @@
 -- Which faults the tests over tokens give, and what is so where they give none.
-use Rattle.std.proofs.Common.{◌≡◌, ℕ, Bool, true, false, cond, List, Option, Some, None, refl, sym}
+use Rattle.std.proofs.Common.{◌≡◌, ℕ, List, Option, Some, None, refl, sym}
 use Rattle.std.specs.Prelude.{⊤, nat_lt, Err}
 use Rattle.std.proofs.lemmas.Option.{none-some, same_Some}
 use Rattle.tb_tree.proofs.lists.Options.{some-none, cond-none}
@@ -71,16 +71,25 @@ text-fault text ts (WrongTag n) are c = (ts, (are, c))
 text-fault text ts (RepeatedAttribute n) are c = (ts, (are, c))
 text-fault text ts NoMemory are c = tt
 
--- Where there is no fault, no number is past its range.
+-- Where there is no fault, no token has one.
 
 else-none : (o : Option ℕ) (fault : ℕ → QueryFault) (rest : Option QueryFault) → or_else o fault rest ≡ None → (o ≡ None) × (rest ≡ None)
 else-none (Some n) fault rest e = absurd (some-none (fault n) e)
 else-none None fault rest e = (refl, e)
 
-pub numbers-none : (s : List Tok) → first_fault s ≡ None → pattern.first_past s ≡ None
-numbers-none s e =
+pub record HasNone (s : List Tok) : Type 0 where
+  pub known : first_unknown (clauses_in s) ≡ None
+  pub once : first_repeated (clauses_in s) ≡ None
+  pub numbers : pattern.first_past s ≡ None
+  pub attributes : first_repeated_attribute (results_in s) ≡ None
+
+pub none-wrong : (s : List Tok) → first_fault s ≡ None → HasNone s
+none-wrong s e =
     let few = cond-none (is_too_nested s) TooNested _ e in
     let at = (cond-none (nat_lt 32 (variables_in s)) TooManyVariables _ (cond-none (nat_lt 64 (pattern.tests_of s)) TooManyNodes _ few.1).1).1 in
     let known = else-none (first_unknown (clauses_in s)) UnknownVariable _ at in
     let once = else-none (first_repeated (clauses_in s)) RepeatedVariable _ known.1 in
-    (else-none (pattern.first_past s) LiteralPast _ once.1).0
+    let past = else-none (pattern.first_past s) LiteralPast _ once.1 in
+    let tags = else-none (first_wrong_tag (results_in s)) WrongTag _ past.1 in
+    let attributes = else-none (first_repeated_attribute (results_in s)) RepeatedAttribute None tags.1 in
+    record { known = known.0; once = once.0; numbers = past.0; attributes = attributes.0 }

@@ -20,3 +20,10 @@ pub mod SyntaxLaws
 pub mod TokenLaws
 pub mod ReturnedLaws
 pub mod EventLaws
+pub mod FitsLaws
+pub mod NumberedLaws
+pub mod ActionLaws
+pub mod SpelledLaws
+pub mod SureLaws
+pub mod MadeLaws
+pub mod PlannableLaws

@@ -1,5 +1,5 @@
 -- Tokens ask for one query at most.
-use Rattle.std.proofs.Common.{◌≡◌, List, [], ◌∷◌, sym, ◌∙◌}
+use Rattle.std.proofs.Common.{List, sym, ◌∙◌}
 use Rattle.tb_token.specs.grammar.Grammar.{Tok}
 use Rattle.tb_token.specs.grammar.Sentences.{Tree, leaf, nothing, pair, first, second}
 use Rattle.tb_token.proofs.grammar.TreeLaws.{one-tree}

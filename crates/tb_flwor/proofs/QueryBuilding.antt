@@ -1,6 +1,5 @@
 -- A whole query is built by its first token.
-use Rattle.std.proofs.Common.{◌≡◌, ℕ, true, false, ◌||◌, ◌==◌, List, [], ◌∷◌, Option, Some, None, refl, sym, ◌∙◌, arith}
-use Rattle.std.specs.Prelude.{codes}
+use Rattle.std.proofs.Common.{◌≡◌, ℕ, true, false, List, [], ◌∷◌, Option, Some, None, refl, sym, ◌∙◌}
 use Rattle.tb_token.specs.grammar.Grammar.{Tok, has}
 use Rattle.tb_token.specs.grammar.Sentences.{Derives, at_end, by_first, by_second}
 use Rattle.tb_token.specs.grammar.Reading.{first_set, read}
@@ -23,7 +22,7 @@ use Rattle.tb_flwor.specs.Value.{BoundNames}
 use Rattle.tb_flwor.specs.Asked.{IsFlwor}
 use Rattle.tb_flwor.specs.Faults.{AreQuery, first_fault}
 use Rattle.tb_flwor.specs.Built.{Asks}
-use Rattle.tb_flwor.proofs.FaultLaws.{numbers-none}
+use Rattle.tb_flwor.proofs.FaultLaws.{none-wrong}
 use Rattle.tb_flwor.proofs.TokenLaws.{has-one}
 
 -- the query comes next where the tokens are one without fault
@@ -36,7 +35,7 @@ read-query s is = by (read rules s (Some (query ∷ []))) refl
     by (Some n) e = absurd ((read-wrong rules follow readable.good s (query ∷ []) n readable.queries e).none is)
 
 pub query-comes : (s : List Tok) → AreQuery s → first_fault s ≡ None → HaveDigits s → Come false (query ∷ []) s
-query-comes s is fine digits = record { parts = read-query s is; digits = digits; numbers = numbers-none s fine }
+query-comes s is fine digits = record { parts = read-query s is; digits = digits; numbers = (none-wrong s fine).numbers }
 
 -- the keyword MATCH is the first token of a `MATCH` query, and of no other
 match-starts : (t : Tok) (u : List Tok) → is_match (t ∷ u) ≡ has (first_set match_query) t.terminal

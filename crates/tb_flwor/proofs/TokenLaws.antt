@@ -1,5 +1,5 @@
 -- A list has the tokens of its trees; and two laws on one terminal.
-use Rattle.std.proofs.Common.{◌≡◌, ℕ, Bool, true, false, ◌||◌, ◌==◌, List, [], ◌∷◌, ◌++◌, refl, sym, ap, ◌∙◌, append_assoc, arith}
+use Rattle.std.proofs.Common.{◌≡◌, ℕ, ◌==◌, List, [], ◌∷◌, ◌++◌, refl, sym, ap, ◌∙◌, append_assoc, arith}
 use Rattle.tb_token.specs.grammar.Grammar.{Tok, Expression, either, has}
 use Rattle.tb_token.specs.grammar.Sentences.{Tree, second, Derives, at_end, by_one, by_both, by_first, by_second, left_out, put_in, no_more, one_more, by_rule}
 use Rattle.tb_token.specs.grammar.Queries.{rules}

@@ -1,6 +1,7 @@
 //! A whole query.
 
 ghost use Rattle.std.specs.Prelude.{◌≡◌, ◌≤◌, IfOk, length};
+ghost use Rattle.tb_query.specs.Plannable.{IsPlannable};
 ghost use Rattle.tb_flwor.specs.Variables.{bound, clauses_in};
 ghost use Rattle.tb_flwor.specs.Built.{Asks};
 ghost use Rattle.tb_flwor.specs.Calls.{CutsQuery, Reads};
@@ -15,10 +16,11 @@ use tb_pattern::build::pattern;
 use tb_query::Query;
 use tb_token::{LexFault, Lexeme, Token, lexemes, tokens};
 
-/// The query that the text asks for, or the first of its faults. Each token is looked at a few times;
-/// what nests costs no calls before it is known to nest in 32 levels at most.
+/// The query that the text asks for, which can be planned, or the first of its faults. Each token is
+/// looked at a few times; what nests costs no calls before it is known to nest in 32 levels at most.
 pub fn read_query(alloc: Global, text: &[u8]) -> Result<Query, QueryFault>
-    ensures { Reads text.now result }
+    ensures reads { Reads text.now result }
+    ensures plannable { IfOk result (λ query. IsPlannable query) }
 {
     if text.len() > 65_536 {
         return Err(QueryFault::TooLong);

@@ -12,7 +12,7 @@ use Rattle.tb_tree.specs.Plain.{Plain, one}
 use Rattle.tb_tree.specs.Numbers.{count}
 use Rattle.tb_tree.specs.Meets.{meets}
 use Rattle.tb_tree.specs.declared.node_test.Test.{Test}
-use Rattle.tb_label.specs.Rows.{Row, rows_of, item_of, listed, document_label, Follows, inside, beside}
+use Rattle.tb_label.specs.Rows.{Row, rows_of, document_row, table, item_of, listed, document_label, Follows, inside, beside}
 use Rattle.tb_label.specs.Stores.{document_item_of}
 use Rattle.tb_tree.proofs.lists.Alls.{all-both, all-weaker}
 use Rattle.tb_label.proofs.RowLaws.{IsUnder, AllFollow, all_under, all_follow, length-rows}
@@ -78,13 +78,15 @@ sorted_of test root =
     sorted (λ r. meets test r.node) (rows_of root)
     (all_rise (rows_of root) (follow_of root) (all-weaker (IsUnder [] 0 2 (2 + 2 * count root)) (λ r. r.label.start < r.label.end) (rows_of root) (λ r u. u.lasts) (under_of root)))
 
+nest_in : (p q : Row → Bool) (rs : List Row) → AllFollow rs → Nest (map item_of (filter p rs)) (map item_of (filter q rs))
+nest_in p q rs follow =
+    All-from_recursion (λ x. All (λ y. Nests x.label y.label) (map item_of (filter q rs))) (map item_of (filter p rs))
+    (all-kept (λ x. AllByRecursion (λ y. Nests x.label y.label) rs) (λ x. All (λ y. Nests x.label y.label) (map item_of (filter q rs))) item_of p rs
+    (λ x h. All-from_recursion (λ y. Nests x.label y.label) (map item_of (filter q rs)) (all-kept (λ y. Nests x.label y.label) (λ y. Nests x.label y.label) item_of q rs (λ y n. n) h))
+    (all_nest rs follow))
+
 nest_of : (s t : Test) (root : Plain) → Nest (listed s root) (listed t root)
-nest_of s t root =
-    All-from_recursion (λ x. All (λ y. Nests x.label y.label) (listed t root)) (listed s root)
-    (all-kept (λ x. AllByRecursion (λ y. Nests x.label y.label) (rows_of root)) (λ x. All (λ y. Nests x.label y.label) (listed t root)) item_of (λ r. meets s r.node) (rows_of root)
-    (λ x h. All-from_recursion (λ y. Nests x.label y.label) (listed t root)
-    (all-kept (λ y. Nests x.label y.label) (λ y. Nests x.label y.label) item_of (λ r. meets t r.node) (rows_of root) (λ y n. n) h))
-    (all_nest (rows_of root) (follow_of root)))
+nest_of s t root = nest_in (λ r. meets s r.node) (λ r. meets t r.node) (rows_of root) (follow_of root)
 
 pub listed-few : (test : Test) (root : Plain) → length (listed test root) ≤ count root
 listed-few test root =
@@ -124,4 +126,27 @@ document_joinable test root =
           alone-all (λ x. All (λ y. Nests x.label y.label) (listed test root)) document
           (All-from_recursion (λ y. Nests document.label y.label) (listed test root)
           (all-kept (IsUnder [] 0 2 (2 + 2 * count root)) (λ y. Nests document.label y.label) item_of (λ r. meets test r.node) (rows_of root) (document_above root) (under_of root)));
+    }
+
+-- The document node's row stands above all others, and its label lasts.
+document_follows : (root : Plain) (r : Row) → IsUnder [] 0 2 (2 + 2 * count root) r → Follows (document_row root) r
+document_follows root r u =
+    inside (u.turn, u.rest, u.is) (record { starts_before = omega (arith, u.starts); ends_after = omega (arith, u.ends); level = omega (arith, u.level, ap length u.is) })
+
+follow_table : (root : Plain) → AllFollow (table root)
+follow_table root = (all-weaker (IsUnder [] 0 2 (2 + 2 * count root)) (Follows (document_row root)) (rows_of root) (document_follows root) (under_of root), follow_of root)
+
+last_table : (root : Plain) → AllByRecursion (λ r. r.label.start < r.label.end) (table root)
+last_table root = (omega arith, all-weaker (IsUnder [] 0 2 (2 + 2 * count root)) (λ r. r.label.start < r.label.end) (rows_of root) (λ r u. u.lasts) (under_of root))
+
+-- Any two lists of rows of one document can be joined, the document node's row among them.
+pub rows_joinable : (p q : Row → Bool) (root : Plain) → AreJoinable (map item_of (filter p (table root))) (map item_of (filter q (table root)))
+rows_joinable p q root =
+    let rise = all_rise (table root) (follow_table root) (last_table root) in
+    record {
+      ancestors_sorted = sorted p (table root) rise;
+      descendants_sorted = sorted q (table root) rise;
+      ancestors_nest = nest_in p p (table root) (follow_table root);
+      descendants_nest = nest_in q q (table root) (follow_table root);
+      both_nest = nest_in p q (table root) (follow_table root);
     }

@@ -11,5 +11,6 @@ pub mod GroupRows
 pub mod KeyRows
 pub mod ResultRows
 pub mod NameRows
+pub mod PlannableRows
 pub mod OperatorRows
 pub mod TableRows

@@ -4,7 +4,7 @@ use Rattle.std.proofs.lemmas.Bool.{cases_lt}
 use Rattle.std.proofs.lemmas.List.Elements.{filter_passes}
 use Rattle.tb_span.specs.Span.{Span, Nests}
 use Rattle.tb_span.specs.Lists.{AreJoinable, is_related}
-use Rattle.tb_span.specs.Seeds.{no_item, label_at, places, IsSeed}
+use Rattle.tb_span.specs.Seeds.{no_item, label_at, places, range, IsSeed}
 use Rattle.tb_span.specs.declared.item.Axis.{Axis}
 use Rattle.tb_span.specs.declared.item.Item.{Item}
 use Rattle.tb_span.specs.declared.item.Pair.{Pair}
@@ -16,7 +16,7 @@ use Rattle.tb_stackjoin.proofs.KeptLaws.{kept_all, seed_kept}
 use Rattle.tb_stackjoin.proofs.PairLaws.{above-stack, pairs-more}
 
 -- a seed is a stack
-pub seed_stack : (a d : List Item) (seed : List ℕ) (from lo hi : ℕ) → AreJoinable a d → from ≤ length a → lo ≤ hi → IsSeed a d seed from lo hi → IsStack a from seed
+pub seed_stack : (a d : List Item) (seed : List ℕ) (from lo hi : ℕ) → AreJoinable a d → from ≤ length a → lo ≤ hi → IsSeed a d seed from (range lo hi) → IsStack a from seed
 seed_stack a d seed from lo hi ok within range seeded = at (cases_lt lo hi)
   where
     at : (lo < hi) ⊎ (hi ≤ lo) → IsStack a from seed
@@ -24,12 +24,12 @@ seed_stack a d seed from lo hi ok within range seeded = at (cases_lt lo hi)
     at (inr none) = subst (λ xs. IsStack a from xs) (sym (seeded.none (omega arith))) (IsStack-nil a from)
 
 -- the ancestors before `from` start before each descendant of the range
-pub seed_started : (a d : List Item) (seed : List ℕ) (from lo hi : ℕ) → AreJoinable a d → hi ≤ length d → IsSeed a d seed from lo hi
+pub seed_started : (a d : List Item) (seed : List ℕ) (from lo hi : ℕ) → AreJoinable a d → hi ≤ length d → IsSeed a d seed from (range lo hi)
     → (j : ℕ) → lo ≤ j → j < hi → (k : ℕ) → k < from → (label_at a k).start < (label_at d j).start
 seed_started a d seed from lo hi ok within seeded j low high k less =
     omega (arith, seeded.started (omega arith) k less, start_rises d lo j ok.descendants_sorted low (omega arith))
 
-pub seed_all : (a d : List Item) (seed stack : List ℕ) (from lo hi : ℕ) → AreJoinable a d → from ≤ length a → hi ≤ length d → IsSeed a d seed from lo hi → stack ≡ seed
+pub seed_all : (a d : List Item) (seed stack : List ℕ) (from lo hi : ℕ) → AreJoinable a d → from ≤ length a → hi ≤ length d → IsSeed a d seed from (range lo hi) → stack ≡ seed
     → (j : ℕ) → lo ≤ j → j < hi → (label_at d j).start < (label_at d j).end
     → filter (lasts a (label_at d j).start) stack ≡ filter (lasts a (label_at d j).start) (places from)
 seed_all a d seed stack from lo hi ok low within seeded same j first last some =
@@ -66,8 +66,8 @@ stack-above a d next after j old new v ok within last is some h left passed star
 pub paired-more : (axis : Axis) (a d : List Item) (lo next after j : ℕ) (old stack new : List ℕ) (v : Span) (had have : List Pair) → AreJoinable a d → lo ≤ j → next ≤ length a
     → v ≡ label_at d j → v.start < v.end → HasPushed a next v.start old stack after → new ≡ filter (lasts a v.start) stack
     → ((label_at d j).start < (label_at d j).end → filter (lasts a (label_at d j).start) old ≡ filter (lasts a (label_at d j).start) (places next))
-    → had ≡ pairs_by_descendant axis a d lo j → have ≡ had ++ map (λ i. pair i j) (filter (λ i. is_related axis (label_at a i) v) new)
-    → have ≡ pairs_by_descendant axis a d lo (j + 1)
+    → had ≡ pairs_by_descendant axis a d (range lo j) → have ≡ had ++ map (λ i. pair i j) (filter (λ i. is_related axis (label_at a i) v) new)
+    → have ≡ pairs_by_descendant axis a d (range lo (j + 1))
 paired-more axis a d lo next after j old stack new v had have ok low start is some pushed left kept pairs added =
     let within : after ≤ length a = omega (arith, pushed.is, run_within a next v.start start) in
     let before : filter (lasts a v.start) old ≡ filter (lasts a v.start) (places next) =
@@ -77,5 +77,5 @@ paired-more axis a d lo next after j old stack new v had have ok low start is so
     let mine : filter (λ i. is_related axis (label_at a i) v) new ≡ above axis a v =
     above-stack axis a v after new some within (λ k behind less. run_rest a next v.start k ok.ancestors_sorted start (omega (arith, pushed.is)) less) open_now in
     added ∙ ap (λ ps. ps ++ map (λ i. pair i j) (filter (λ i. is_related axis (label_at a i) v) new)) pairs
-    ∙ ap (λ xs. pairs_by_descendant axis a d lo j ++ map (λ i. pair i j) xs) (mine ∙ ap (λ w. above axis a w) is)
+    ∙ ap (λ xs. pairs_by_descendant axis a d (range lo j) ++ map (λ i. pair i j) xs) (mine ∙ ap (λ w. above axis a w) is)
     ∙ sym (pairs-more axis a d lo j low)

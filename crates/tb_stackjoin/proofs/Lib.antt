@@ -7,4 +7,8 @@ pub mod PairLaws
 pub mod JoinLaws
 pub mod ListedLaws
 pub mod SortLaws
+pub mod ReachLaws
+pub mod AncestorLaws
+pub mod OwnLaws
+pub mod ItemLaws
 pub mod WorkedRows

@@ -1,56 +1,45 @@
 -- The pairs are the relation, listed in order: each pair of places that is related stands in the list, nothing
 -- else does, and each pair precedes all later ones, so that none stands there twice.
-use Rattle.std.proofs.Common.{◌≡◌, ℕ, zero, suc, ◌+◌, ◌-◌, ◌<◌, ◌≤◌, ◌⊎◌, inl, inr, Bool, true, false, cond, List, [], ◌∷◌, ◌++◌, length, get_or, All, AllPairs, Contains, filter, flat_map, refl, sym, ap, ◌∙◌, subst, arith}
+use Rattle.std.proofs.Common.{◌≡◌, ℕ, zero, suc, ◌+◌, ◌-◌, ◌<◌, ◌≤◌, ◌⊎◌, inl, inr, Bool, true, false, cond, List, [], ◌∷◌, length, get_or, All, AllPairs, Contains, filter, flat_map, refl, sym, ap, ◌∙◌, subst, arith}
 use Rattle.std.specs.List.{range_with_len}
 use Rattle.std.proofs.lemmas.Bool.{cases_eq}
 use Rattle.std.proofs.lemmas.List.{get_or-map, length-map}
-use Rattle.std.proofs.lemmas.List.Elements.{All-nil, All-append, All-head, All-tail, All-map, All-filter, filter_passes, Contains-append_left, Contains-append_right}
-use Rattle.std.proofs.lemmas.List.Kept.{AllPairs-cons, AllPairs-filter}
+use Rattle.std.proofs.lemmas.List.Elements.{All-map, All-filter, filter_passes, Contains-append_left, Contains-append_right}
+use Rattle.std.proofs.lemmas.List.Kept.{AllPairs-filter}
 use Rattle.tb_span.specs.Lists.{is_related}
-use Rattle.tb_span.specs.Seeds.{label_at, places}
+use Rattle.tb_span.specs.Seeds.{label_at, places, Range, places_in}
 use Rattle.tb_span.specs.declared.item.Axis.{Axis}
 use Rattle.tb_span.specs.declared.item.Item.{Item}
 use Rattle.tb_span.specs.declared.item.Pair.{Pair}
 use Rattle.tb_stackjoin.specs.Pairs.{pair, above, paired, pairs_of, pairs_by_descendant}
 use Rattle.tb_tree.proofs.lists.Filters.{filter-keep}
 use Rattle.tb_tree.proofs.lists.Ranges.{All-range, range_rises}
-use Rattle.tb_tree.proofs.lists.Pairs.{AllPairs-nil, AllPairs-head, AllPairs-tail}
+use Rattle.tb_tree.proofs.lists.Maps.{All-flat_map}
+use Rattle.tb_tree.proofs.lists.Pairs.{AllPairs-nil, AllPairs-append}
 
 -- the places of an ancestor in `a` and of a descendant in the range of `d`, related on the axis
-pub record IsRelatedPair (axis : Axis) (a d : List Item) (lo hi : ℕ) (p : Pair) : Type 0 where
+pub record IsRelatedPair (axis : Axis) (a d : List Item) (r : Range) (p : Pair) : Type 0 where
   pub ancestor : p.a < length a
-  pub from : lo ≤ p.d
-  pub below : p.d < hi
+  pub from : r.lo ≤ p.d
+  pub below : p.d < r.hi
   pub related : is_related axis (label_at a p.a) (label_at d p.d) ≡ true
 
 -- by descendant, and then by ancestor
 abbrev pub Precedes : Pair → Pair → Type 0
 Precedes p q = (p.d < q.d) ⊎ ((p.d ≡ q.d) × (p.a < q.a))
 
-All-flat_map : {X Y : Type 0} (P : Y → Type 0) (f : X → List Y) (xs : List X) → All (λ x. All P (f x)) xs → All P (flat_map f xs)
-All-flat_map P f [] h = All-nil P
-All-flat_map P f (x ∷ xs) h =
-    All-append P (f x) (flat_map f xs) (All-head (λ y. All P (f y)) x xs h) (All-flat_map P f xs (All-tail (λ y. All P (f y)) x xs h))
-
-AllPairs-append : {X : Type 0} (R : X → X → Type 0) (xs ys : List X) → AllPairs R xs → AllPairs R ys → All (λ x. All (R x) ys) xs → AllPairs R (xs ++ ys)
-AllPairs-append R [] ys first second across = second
-AllPairs-append R (x ∷ xs) ys first second across =
-    AllPairs-cons R x (xs ++ ys)
-    (All-append (R x) xs ys (AllPairs-head R x xs first) (All-head (λ z. All (R z) ys) x xs across))
-    (AllPairs-append R xs ys (AllPairs-tail R x xs first) second (All-tail (λ z. All (R z) ys) x xs across))
-
-related_of : (axis : Axis) (a d : List Item) (lo hi j : ℕ) → lo ≤ j → j < hi → All (IsRelatedPair axis a d lo hi) (pairs_of axis a d j)
-related_of axis a d lo hi j low high =
+related_of : (axis : Axis) (a d : List Item) (r : Range) (j : ℕ) → r.lo ≤ j → j < r.hi → All (IsRelatedPair axis a d r) (pairs_of axis a d j)
+related_of axis a d r j low high =
     let test = λ (i : ℕ). is_related axis (label_at a i) (label_at d j) in
     let within = All-filter test (λ i. i < length a) (places (length a)) (All-range (λ i. i < length a) 0 (length a) (λ i first last. omega arith)) in
-    All-map (IsRelatedPair axis a d lo hi) (λ i. pair i j) (above axis a (label_at d j))
+    All-map (IsRelatedPair axis a d r) (λ i. pair i j) (above axis a (label_at d j))
     (λ k e less. record { ancestor = within k e less; from = low; below = high; related = filter_passes test (places (length a)) k e less })
 
 -- nothing else is listed
-pub listed-related : (axis : Axis) (a d : List Item) (lo hi : ℕ) → lo ≤ hi → All (IsRelatedPair axis a d lo hi) (pairs_by_descendant axis a d lo hi)
-listed-related axis a d lo hi le =
-    All-flat_map (IsRelatedPair axis a d lo hi) (pairs_of axis a d) (range_with_len lo (hi - lo))
-    (All-range (λ j. All (IsRelatedPair axis a d lo hi) (pairs_of axis a d j)) lo (hi - lo) (λ j low high. related_of axis a d lo hi j low (omega arith)))
+pub listed-related : (axis : Axis) (a d : List Item) (r : Range) → r.lo ≤ r.hi → All (IsRelatedPair axis a d r) (pairs_by_descendant axis a d r)
+listed-related axis a d r le =
+    All-flat_map (IsRelatedPair axis a d r) (pairs_of axis a d) (places_in r)
+    (All-range (λ j. All (IsRelatedPair axis a d r) (pairs_of axis a d j)) r.lo (r.hi - r.lo) (λ j low high. related_of axis a d r j low (omega arith)))
 
 own-rise : (axis : Axis) (a d : List Item) (j : ℕ) → AllPairs Precedes (pairs_of axis a d j)
 own-rise axis a d j = λ i k e less within.
@@ -77,8 +66,8 @@ range-rise axis a d lo (suc n) =
     (λ i e less k f within. inl (omega (arith, descendant_is axis a d lo i e less, descendants_from axis a d (lo + 1) n k f within)))
 
 -- each pair precedes all later ones
-pub listed-rise : (axis : Axis) (a d : List Item) (lo hi : ℕ) → AllPairs Precedes (pairs_by_descendant axis a d lo hi)
-listed-rise axis a d lo hi = range-rise axis a d lo (hi - lo)
+pub listed-rise : (axis : Axis) (a d : List Item) (r : Range) → AllPairs Precedes (pairs_by_descendant axis a d r)
+listed-rise axis a d r = range-rise axis a d r.lo (r.hi - r.lo)
 
 cond-contains : (b : Bool) (x : ℕ) (xs : List ℕ) (y : ℕ) → Contains xs y → Contains (cond b (x ∷ xs) xs) y
 cond-contains true x xs y h = Contains-append_right (x ∷ []) xs y h
@@ -110,8 +99,8 @@ range-contains axis a d lo (suc n) p low high h = at (cases_eq lo p.d) (range-co
         Contains-append_right (pairs_of axis a d lo) (flat_map (pairs_of axis a d) (range_with_len (lo + 1) n)) p (later (omega arith) (omega arith) h)
 
 -- each related pair is listed
-pub related-listed : (axis : Axis) (a d : List Item) (lo hi : ℕ) (p : Pair) → IsRelatedPair axis a d lo hi p → Contains (pairs_by_descendant axis a d lo hi) p
-related-listed axis a d lo hi p h =
-    range-contains axis a d lo (hi - lo) p h.from (omega (arith, h.from, h.below))
+pub related-listed : (axis : Axis) (a d : List Item) (r : Range) (p : Pair) → IsRelatedPair axis a d r p → Contains (pairs_by_descendant axis a d r) p
+related-listed axis a d r p h =
+    range-contains axis a d r.lo (r.hi - r.lo) p h.from (omega (arith, h.from, h.below))
     (map-contains (above axis a (label_at d p.d)) p.a p.d
     (filter-contains (λ i. is_related axis (label_at a i) (label_at d p.d)) 0 (length a) p.a (omega arith) (omega (arith, h.ancestor)) h.related))

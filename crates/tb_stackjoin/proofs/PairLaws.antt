@@ -7,7 +7,7 @@ use Rattle.std.proofs.lemmas.List.Elements.{filter-append}
 use Rattle.std.proofs.lemmas.Grind.{flat_map-append}
 use Rattle.tb_span.specs.Span.{Span, IsAbove}
 use Rattle.tb_span.specs.Lists.{is_related}
-use Rattle.tb_span.specs.Seeds.{label_at, places}
+use Rattle.tb_span.specs.Seeds.{label_at, places, range}
 use Rattle.tb_span.specs.declared.item.Axis.{Axis}
 use Rattle.tb_span.specs.declared.item.Axis.TheVariants.{Child, Descendant}
 use Rattle.tb_span.specs.declared.item.Item.{Item}
@@ -31,7 +31,7 @@ related_inside Child u v e =
 related_lasts : (axis : Axis) (u v : Span) → v.start < v.end → is_related axis u v ≡ true → v.start ≤ u.end
 related_lasts axis u v some e = omega (arith, related_inside axis u v e)
 
-unrelated : (axis : Axis) (u v : Span) → v.start ≤ u.start → is_related axis u v ≡ false
+pub unrelated : (axis : Axis) (u v : Span) → v.start ≤ u.start → is_related axis u v ≡ false
 unrelated axis u v late = false_from_ne_true (is_related axis u v) (λ e. omega (arith, related_inside axis u v e))
 
 -- what the stack has on the axis is what the whole list has
@@ -48,7 +48,7 @@ above-stack axis a v next stack some within rest is =
     ∙ sym (filter-append f (places next) tail)
     ∙ ap (λ xs. filter f xs) (places_join next (length a) within)
 
-is_above-related : (u v : Span) → IsAbove u v → is_related Descendant u v ≡ true
+pub is_above-related : (u v : Span) → IsAbove u v → is_related Descendant u v ≡ true
 is_above-related u v h = and_from (nat_lt u.start v.start) (nat_lt v.end u.end) (lt-ltb u.start v.start h.starts_before) (lt-ltb v.end u.end h.ends_after)
 
 -- all on the stack are ancestors
@@ -99,15 +99,15 @@ parent-none a n stack rest top v is h on ne =
     ∙ parents a n rest top v (subst (λ xs. IsStack a n xs) is h) (subst (λ xs. AreAbove a xs v) is on)
     ∙ filter-skip (λ i. is_related Child (label_at a i) v) top [] (no_parent (label_at a top) v ne)
 
-pub pairs-none : (axis : Axis) (a d : List Item) (lo hi : ℕ) → hi ≤ lo → pairs_by_descendant axis a d lo hi ≡ []
+pub pairs-none : (axis : Axis) (a d : List Item) (lo hi : ℕ) → hi ≤ lo → pairs_by_descendant axis a d (range lo hi) ≡ []
 pairs-none axis a d lo hi none = ap (λ js. flat_map (pairs_of axis a d) js) (range_none lo hi none)
 
 -- one descendant more
-pub pairs-more : (axis : Axis) (a d : List Item) (lo j : ℕ) → lo ≤ j → pairs_by_descendant axis a d lo (j + 1) ≡ pairs_by_descendant axis a d lo j ++ pairs_of axis a d j
+pub pairs-more : (axis : Axis) (a d : List Item) (lo j : ℕ) → lo ≤ j → pairs_by_descendant axis a d (range lo (j + 1)) ≡ pairs_by_descendant axis a d (range lo j) ++ pairs_of axis a d j
 pairs-more axis a d lo j low =
     ap (λ js. flat_map (pairs_of axis a d) js) (range_more lo j low)
     ∙ flat_map-append (pairs_of axis a d) (range_with_len lo (j - lo)) (j ∷ [])
-    ∙ ap (λ ps. pairs_by_descendant axis a d lo j ++ ps) (append-nil (pairs_of axis a d j))
+    ∙ ap (λ ps. pairs_by_descendant axis a d (range lo j) ++ ps) (append-nil (pairs_of axis a d j))
 
 -- one ancestor more, on the axis or not
 pub related-yes : (axis : Axis) (a : List Item) (v : Span) (n : ℕ) → is_related axis (label_at a n) v ≡ true

@@ -14,7 +14,7 @@ places_join m n le =
     let whole : m + (n - m) ≡ n = omega arith in
     ap (λ k. places m ++ range_with_len k (n - m)) start ∙ range_join 0 m (n - m) ∙ ap places whole
 
-places-more : (n : ℕ) → places (n + 1) ≡ places n ++ n ∷ []
+pub places-more : (n : ℕ) → places (n + 1) ≡ places n ++ n ∷ []
 places-more n =
     let one : n + 1 - n ≡ 1 = omega arith in
     sym (places_join n (n + 1) (omega arith)) ∙ ap (λ k. places n ++ range_with_len n k) one

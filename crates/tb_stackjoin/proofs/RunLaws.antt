@@ -5,7 +5,7 @@ use Rattle.std.proofs.lemmas.Bool.{cases_eq, cond-true, ltb-true, ltb-false, lt-
 use Rattle.std.proofs.lemmas.List.{drop_more, get_or_default}
 use Rattle.std.proofs.lemmas.List.Sums.{prefix_len-le-length, prefix_len-drop_all, prefix_len-drop_no, prefix_len_passes, prefix_len_stops}
 use Rattle.tb_span.specs.Lists.{IsSortedByStart}
-use Rattle.tb_span.specs.Seeds.{no_item, label_at}
+use Rattle.tb_span.specs.Seeds.{no_item, label_at, range}
 use Rattle.tb_span.specs.declared.item.Item.{Item}
 use Rattle.tb_stackjoin.specs.Turns.{starts_before, turns}
 use Rattle.tb_stackjoin.specs.Stacks.{run}
@@ -83,7 +83,7 @@ start_rises d i k sorted le within = at (cases_eq i k)
     at (inr ne) = omega (arith, sorted i k no_item (omega arith) within)
 
 -- a run up to any descendant of the range is not longer than the turns
-pub run_turns : (a d : List Item) (from lo hi j : ℕ) → IsSortedByStart d → lo ≤ j → j < hi → hi ≤ length d → run a from (label_at d j).start ≤ turns a d from lo hi
+pub run_turns : (a d : List Item) (from lo hi j : ℕ) → IsSortedByStart d → lo ≤ j → j < hi → hi ≤ length d → run a from (label_at d j).start ≤ turns a d from (range lo hi)
 run_turns a d from lo hi j sorted low high within =
     let last = (label_at d (hi - 1)).start in
     let rises = start_rises d j (hi - 1) sorted (omega arith) (omega arith) in

@@ -1,15 +1,16 @@
 -- The pairs by descendant, sorted by ancestor, are the pairs by ancestor.
-use Rattle.std.proofs.Common.{not, ◌&&◌, ◌≡◌, ℕ, zero, suc, ◌+◌, ◌-◌, ◌<◌, ◌≤◌, ◌⊎◌, inl, inr, Bool, true, false, cond, nat_eq, nat_lt, List, [], ◌∷◌, ◌++◌, length, All, AllPairs, map, filter, flat_map, refl, sym, ap, ap₂, ◌∙◌, arith}
-use Rattle.std.specs.List.{range_with_len}
+use Rattle.std.proofs.Common.{not, ◌&&◌, ◌≡◌, ℕ, zero, suc, ◌+◌, ◌<◌, ◌≤◌, ◌⊎◌, inl, inr, Bool, true, false, cond, nat_eq, nat_lt, List, [], ◌∷◌, ◌++◌, length, get_or, Some, All, AllPairs, map, filter, flat_map, refl, sym, ap, ap₂, ◌∙◌, arith}
+use Rattle.std.specs.List.{range_with_len, IsAllAdjacentAnswer}
 use Rattle.std.proofs.lemmas.Bool.Decides.{nat_tests}
-use Rattle.std.proofs.lemmas.Bool.{cases_eq, eqb-true, eq-eqb, ne_eqb, ltb-true, lt-ltb, false_from_ne_true}
+use Rattle.std.proofs.lemmas.Bool.{cases_eq, eqb-true, eq-eqb, ne_eqb, ltb-true, lt-ltb, false_from_ne_true, false≢true}
 use Rattle.std.proofs.lemmas.List.Elements.{All-head, All-tail, All-filter, filter-append, filter_passes}
 use Rattle.std.proofs.lemmas.List.Kept.{AllPairs-filter}
 use Rattle.std.specs.List.Sorted.{IsPermutation, IsNonDecreasingBy, IsStableByKey}
-use Rattle.std.specs.Ordering.{nat_cmp, is_lt}
-use Rattle.std.proofs.lemmas.List.Sorted.{All-permutation}
+use Rattle.std.specs.Ordering.{nat_cmp, is_lt, is_le, is_some_and}
+use Rattle.std.specs.declared.cmp.Ordering.TheVariants.{Less, Equal, Greater}
+use Rattle.std.proofs.lemmas.List.Sorted.{All-permutation, IsNonDecreasingBy-from_all_adjacent}
 use Rattle.tb_span.specs.Lists.{is_related}
-use Rattle.tb_span.specs.Seeds.{label_at, places}
+use Rattle.tb_span.specs.Seeds.{label_at, places, Range, places_in}
 use Rattle.tb_span.specs.declared.item.Axis.{Axis}
 use Rattle.tb_span.specs.declared.item.Item.{Item}
 use Rattle.tb_span.specs.declared.item.Pair.{Pair}
@@ -21,14 +22,14 @@ use Rattle.tb_tree.proofs.lists.Pairs.{AllPairs-head, AllPairs-tail}
 use Rattle.tb_stackjoin.proofs.ListedLaws.{IsRelatedPair, listed-related}
 
 -- the elements with this key, and those with a greater one
-abbrev part : {X : Type 0} → (X → ℕ) → ℕ → List X → List X
+abbrev pub part : {X : Type 0} → (X → ℕ) → ℕ → List X → List X
 part key i xs = filter (λ x. nat_eq (key x) i) xs
 
-abbrev later : {X : Type 0} → (X → ℕ) → ℕ → List X → List X
+abbrev pub later : {X : Type 0} → (X → ℕ) → ℕ → List X → List X
 later key i xs = filter (λ x. nat_lt i (key x)) xs
 
 -- A sorted list begins with the elements of the least key.
-front : {X : Type 0} (key : X → ℕ) (i : ℕ) (xs : List X) → AllPairs (λ x y. key x ≤ key y) xs → All (λ x. i ≤ key x) xs → xs ≡ part key i xs ++ later key i xs
+pub front : {X : Type 0} (key : X → ℕ) (i : ℕ) (xs : List X) → AllPairs (λ x y. key x ≤ key y) xs → All (λ x. i ≤ key x) xs → xs ≡ part key i xs ++ later key i xs
 front key i [] rises low = refl
 front key i (x ∷ xs) rises low =
     at (cases_eq (key x) i) (front key i xs (AllPairs-tail (λ y z. key y ≤ key z) x xs rises) (All-tail (λ y. i ≤ key y) x xs low))
@@ -67,7 +68,7 @@ parts key lo (suc n) xs rises low high =
     (λ i first last. filter_filter (λ x. nat_eq (key x) i) passes xs (λ k d less e. lt-ltb lo _ (omega (arith, first, eqb-true _ i e))))))
 
 -- a range has each of its numbers once
-range_at : (lo n i : ℕ) → lo ≤ i → i < lo + n → filter (λ k. nat_eq k i) (range_with_len lo n) ≡ i ∷ []
+pub range_at : (lo n i : ℕ) → lo ≤ i → i < lo + n → filter (λ k. nat_eq k i) (range_with_len lo n) ≡ i ∷ []
 range_at lo zero i low high = absurd (omega arith)
 range_at lo (suc n) i low high = at (cases_eq lo i) (range_at (lo + 1) n i)
   where
@@ -102,17 +103,13 @@ pairs_at axis a d i (j ∷ js) within =
     ∙ ap₂ (λ p q. p ++ q) (one_at axis a d i j within) (pairs_at axis a d i js within)
     ∙ one_more i j (filter related js) (related j)
 
--- Sorted by ancestor, the pairs of a whole join are the pairs by ancestor.
-pub by_ancestor : (axis : Axis) (a d : List Item) (sorted : List Pair) → AreByAncestor (pairs_by_descendant axis a d 0 (length d)) sorted → sorted ≡ pairs_by_ancestor axis a d
-by_ancestor axis a d sorted h =
-    let whole : length d - 0 ≡ length d = omega arith in
-    let pairs = pairs_by_descendant axis a d 0 (length d) in
-    let within = All-permutation (IsRelatedPair axis a d 0 (length d)) pairs sorted h.moved (listed-related axis a d 0 (length d) (omega arith)) in
+-- Sorted by ancestor, the pairs of a join are the pairs by ancestor.
+pub by_ancestor : (axis : Axis) (a d : List Item) (r : Range) (sorted : List Pair) → r.lo ≤ r.hi → AreByAncestor (pairs_by_descendant axis a d r) sorted → sorted ≡ pairs_by_ancestor axis a d r
+by_ancestor axis a d r sorted le h =
+    let within = All-permutation (IsRelatedPair axis a d r) (pairs_by_descendant axis a d r) sorted h.moved (listed-related axis a d r le) in
     parts (λ p. p.a) 0 (length a) sorted (λ i j e less last. h.rises i j e (omega arith) last) (λ k e less. omega arith) (λ k e less. omega (arith, (within k e less).ancestor))
-    ∙ flat_map_same (λ i. of_ancestor i sorted) (pairs_under axis a d) (places (length a))
-    (All-range (λ i. of_ancestor i sorted ≡ pairs_under axis a d i) 0 (length a)
-    (λ i first last.
-    h.kept i ∙ ap (λ n. of_ancestor i (flat_map (pairs_of axis a d) (range_with_len 0 n))) whole ∙ pairs_at axis a d i (places (length d)) (omega (arith, last))))
+    ∙ flat_map_same (λ i. of_ancestor i sorted) (pairs_under axis a d r) (places (length a))
+    (All-range (λ i. of_ancestor i sorted ≡ pairs_under axis a d r i) 0 (length a) (λ i first last. h.kept i ∙ pairs_at axis a d i (places_in r) (omega (arith, last))))
 
 ties_are : (m n : ℕ) → (not (is_lt (nat_cmp m n)) && not (is_lt (nat_cmp n m))) ≡ nat_eq n m
 ties_are m n = grind (arith, nat_tests)
@@ -128,3 +125,17 @@ by_stable_sort pairs sorted moved rises stable = record {
       ∙ stable (pair i 0)
       ∙ filter_same _ (λ p. nat_eq p.a i) pairs (λ k e less. ties_are i _);
 }
+
+-- what the test of the order says
+rises-one : (m n : ℕ) (less same : Bool) → (less ≡ true → m ≤ n) → (same ≡ true → m ≤ n) → is_le (cond less Less (cond same Equal Greater)) ≡ true → m ≤ n
+rises-one m n true same less is e = less refl
+rises-one m n false true less is e = is refl
+rises-one m n false false less is e = absurd (false≢true e)
+
+pub rises-from_test : (pairs : List Pair) (r : Bool) → IsAllAdjacentAnswer (λ (x y : Pair) (b : Bool). b ≡ is_some_and is_le (Some (nat_cmp x.a y.a))) pairs r → r ≡ true → IsNonDecreasingBy (λ p. p.a) pairs
+rises-from_test pairs true h e =
+    IsNonDecreasingBy-from_all_adjacent (λ p. p.a) pairs (λ k d less.
+    let m = (get_or pairs k d).a in
+    let n = (get_or pairs (k + 1) d).a in
+    rises-one m n (nat_lt m n) (nat_eq m n) (λ t. omega (arith, ltb-true m n t)) (λ t. omega (arith, eqb-true m n t)) (sym (h k d less)))
+rises-from_test pairs false h e = absurd (false≢true e)

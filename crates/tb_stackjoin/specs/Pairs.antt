@@ -1,13 +1,14 @@
 -- The pairs of a structural join: the places of an ancestor and of a descendant in their two lists.
-use Rattle.std.specs.Prelude.{◌≡◌, ℕ, ◌-◌, nat_eq, List, length, map, filter, flat_map}
-use Rattle.std.specs.List.{range_with_len}
+use Rattle.std.specs.Prelude.{◌≡◌, ℕ, nat_eq, List, length, map, filter, flat_map}
 use Rattle.std.specs.List.Sorted.{IsPermutation, IsNonDecreasingBy}
 use Rattle.tb_span.specs.Span.{Span}
 use Rattle.tb_span.specs.Lists.{is_related}
-use Rattle.tb_span.specs.Seeds.{label_at, places}
+use Rattle.tb_span.specs.Seeds.{label_at, places, Range, places_in}
 use Rattle.tb_span.specs.declared.item.Axis.{Axis}
 use Rattle.tb_span.specs.declared.item.Item.{Item}
 use Rattle.tb_span.specs.declared.item.Pair.{Pair}
+use Rattle.tb_stackjoin.specs.declared.whole.By.{By}
+use Rattle.tb_stackjoin.specs.declared.whole.By.TheVariants.{Desc, Anc}
 
 abbrev pub pair : ℕ → ℕ → Pair
 pair i j = record { a = i; d = j }
@@ -28,21 +29,26 @@ paired ancestors j = map (λ i. pair i j) ancestors
 abbrev pub pairs_of : Axis → List Item → List Item → ℕ → List Pair
 pairs_of axis a d j = paired (above axis a (label_at d j)) j
 
--- all pairs of the descendants from place lo up to hi, by descendant and then by ancestor
-abbrev pub pairs_by_descendant : Axis → List Item → List Item → ℕ → ℕ → List Pair
-pairs_by_descendant axis a d lo hi = flat_map (pairs_of axis a d) (range_with_len lo (hi - lo))
+-- all pairs of the descendants of a range, by descendant and then by ancestor
+abbrev pub pairs_by_descendant : Axis → List Item → List Item → Range → List Pair
+pairs_by_descendant axis a d r = flat_map (pairs_of axis a d) (places_in r)
 
--- the places in `d` of all that the label u has on the axis, in order
-abbrev pub below : Axis → List Item → Span → List ℕ
-below axis d u = filter (λ j. is_related axis u (label_at d j)) (places (length d))
+-- the places in the range of `d` of all that the label u has on the axis, in order
+abbrev pub below : Axis → List Item → Span → Range → List ℕ
+below axis d u r = filter (λ j. is_related axis u (label_at d j)) (places_in r)
 
 -- all pairs of the ancestor at place i, by descendant
-abbrev pub pairs_under : Axis → List Item → List Item → ℕ → List Pair
-pairs_under axis a d i = map (λ j. pair i j) (below axis d (label_at a i))
+abbrev pub pairs_under : Axis → List Item → List Item → Range → ℕ → List Pair
+pairs_under axis a d r i = map (λ j. pair i j) (below axis d (label_at a i) r)
 
--- all pairs, by ancestor and then by descendant
-abbrev pub pairs_by_ancestor : Axis → List Item → List Item → List Pair
-pairs_by_ancestor axis a d = flat_map (pairs_under axis a d) (places (length a))
+-- the same pairs, by ancestor and then by descendant
+abbrev pub pairs_by_ancestor : Axis → List Item → List Item → Range → List Pair
+pairs_by_ancestor axis a d r = flat_map (pairs_under axis a d r) (places (length a))
+
+-- the pairs in either order
+abbrev pub pairs_by : By → Axis → List Item → List Item → Range → List Pair
+pairs_by Desc axis a d r = pairs_by_descendant axis a d r
+pairs_by Anc axis a d r = pairs_by_ancestor axis a d r
 
 -- those of the pairs that have the ancestor at place i
 abbrev pub of_ancestor : ℕ → List Pair → List Pair

@@ -2,7 +2,7 @@
 
 ghost use Rattle.std.specs.Prelude.{◌≡◌, ◌+◌, ◌^◌, ◌<◌, ◌≤◌, length, IfOk};
 ghost use Rattle.tb_span.specs.Lists.{AreJoinable};
-ghost use Rattle.tb_span.specs.Seeds.{IsSeed};
+ghost use Rattle.tb_span.specs.Seeds.{IsSeed, range};
 ghost use Rattle.tb_stackjoin.specs.Pairs.{pairs_by_descendant};
 ghost use Rattle.tb_stackjoin.specs.Turns.{most_steps};
 
@@ -30,9 +30,9 @@ pub fn join_desc<L: Ledger>(
 ) -> Result<Vec<Pair>, AllocError>
     requires joinable { AreJoinable a.now d.now }
     requires range { (lo ≤ hi) × (hi ≤ length d.now) × (from ≤ length a.now) }
-    requires seeded { IsSeed a.now d.now seed.now from lo hi }
-    ensures pairs { IfOk result (λ pairs. pairs.items ≡ pairs_by_descendant axis a.now d.now lo hi) }
-    ensures cost { steps.new ≤ steps.old + most_steps a.now d.now seed.now from lo hi }
+    requires seeded { IsSeed a.now d.now seed.now from (range lo hi) }
+    ensures pairs { IfOk result (λ pairs. pairs.items ≡ pairs_by_descendant axis a.now d.now (range lo hi)) }
+    ensures cost { steps.new ≤ steps.old + most_steps a.now d.now seed.now from (range lo hi) }
 {
     let mut stack = Stack::from_slice(alloc, seed)?;
     let mut next = from;

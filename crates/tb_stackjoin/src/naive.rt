@@ -3,6 +3,7 @@
 ghost use Rattle.std.specs.Prelude.{◌≡◌, ◌^◌, ◌<◌, ◌≤◌, ◌++◌, All, length, IfOk, OnOk};
 ghost use Rattle.tb_span.specs.Span.{Nests};
 ghost use Rattle.tb_span.specs.Lists.{IsSortedByStart, AreJoinable, is_related};
+ghost use Rattle.tb_span.specs.Seeds.{range};
 ghost use Rattle.tb_stackjoin.specs.Pairs.{above, paired, pairs_by_descendant};
 
 use crate::stack::label_of;
@@ -81,7 +82,7 @@ pub fn naive_join<L: Ledger>(
 ) -> Result<Vec<Pair>, AllocError>
     requires joinable { AreJoinable a.now d.now }
     requires range { (lo ≤ hi) × (hi ≤ length d.now) }
-    ensures { IfOk result (λ pairs. pairs.items ≡ pairs_by_descendant axis a.now d.now lo hi) }
+    ensures { IfOk result (λ pairs. pairs.items ≡ pairs_by_descendant axis a.now d.now (range lo hi)) }
 {
     let mut pairs = Vec::new(alloc);
     'each: for place in lo..hi {

@@ -1,8 +1,9 @@
 //! What no clause says: that joins succeed with ample memory, and small joins whose pairs were worked by hand.
 
 ghost use Rattle.std.specs.Prelude.{◌≡◌, ◌+◌, [], ◌<◌, ◌≤◌, ◌^◌, IfOk, length, map};
+ghost use Rattle.std.specs.List.Sorted.{IsNonDecreasingBy};
 ghost use Rattle.tb_span.specs.Lists.{AreJoinable};
-ghost use Rattle.tb_span.specs.Seeds.{IsSeed};
+ghost use Rattle.tb_span.specs.Seeds.{IsSeed, range};
 
 mod checked;
 
@@ -27,7 +28,7 @@ fn seed_of(alloc: Global, a: &[Known], d: &[Known], lo: u32) -> Result<Seed, All
     requires within { lo ≤ length d.now }
     ensures from { IfOk result (λ seed. seed.from ≤ length a.now) }
     ensures seed { IfOk result (λ seed. IsSeed (map (λ u. u.item) a.now) (map (λ u. u.item) d.now)
-        seed.places.items seed.from lo (length d.now)) }
+        seed.places.items seed.from (range lo (length d.now))) }
 {
     if lo as usize == d.len() {
         return Ok(Seed {
@@ -41,15 +42,94 @@ fn seed_of(alloc: Global, a: &[Known], d: &[Known], lo: u32) -> Result<Seed, All
     Ok(Seed { from, places })
 }
 
-/// The seed of a range, and the pairs of the range.
+/// The seed of a range, and the pairs of the range in both orders.
 #[derive(Drop)]
 struct Outcome {
     seed: Vec<u32>,
-    pairs: Vec<Pair>,
+    by_descendant: Vec<Pair>,
+    by_ancestor: Vec<Pair>,
 }
 
-// Joins the range from place `lo` to the end of `d`, and compares its pairs with those of the twin and with
-// the last ones of the whole join.
+// Joins a range to the end of `d`, and compares its pairs with those of the twin and with the last ones of the
+// whole join.
+fn by_descendant<L: Ledger>(
+    alloc: Global,
+    a: &[Item],
+    d: &[Item],
+    seed: &Seed,
+    lo: u32,
+    axis: Axis,
+    steps: &mut Steps<L>,
+) -> Result<Vec<Pair>, Fail>
+    requires joinable { AreJoinable a.now d.now }
+    requires few { length d.now < 2 ^ 32 }
+    requires range { (lo ≤ length d.now) × (seed.now.from ≤ length a.now) }
+    requires seeded { IsSeed a.now d.now seed.now.places.items seed.now.from (range lo (length d.now)) }
+{
+    let hi = d.len() as u32;
+    let pairs = join_desc(alloc, a, d, &seed.places, seed.from, lo, hi, axis, steps)?;
+    let plain = naive_join(alloc, a, d, lo, hi, axis, steps)?;
+    if pairs != plain {
+        Err("the join and its twin differ")?;
+    }
+    let whole = whole_join(alloc, a, d, axis, By::Desc)?;
+    if !whole.ends_with(&pairs) {
+        Err("the range and the whole join differ")?;
+    }
+    Ok(pairs)
+}
+
+// The same by ancestor; the pairs of each ancestor, one after the other, are all of them.
+fn by_ancestor<L: Ledger>(
+    alloc: Global,
+    a: &[Item],
+    d: &[Item],
+    seed: &Seed,
+    lo: u32,
+    axis: Axis,
+    steps: &mut Steps<L>,
+) -> Result<Vec<Pair>, Fail>
+    requires joinable { AreJoinable a.now d.now }
+    requires few { (length a.now < 2 ^ 32) × (length d.now < 2 ^ 32) }
+    requires range { (lo ≤ length d.now) × (seed.now.from ≤ length a.now) }
+    requires seeded { IsSeed a.now d.now seed.now.places.items seed.now.from (range lo (length d.now)) }
+{
+    let hi = d.len() as u32;
+    let pairs = join_anc(alloc, a, d, &seed.places, seed.from, lo, hi, axis, steps)?;
+    let mut plain = naive_join(alloc, a, d, lo, hi, axis, steps)?;
+    plain.sort_by_key(|pair| pair.a)?;
+    if pairs != plain {
+        Err("the join by ancestor and its twin differ")?;
+    }
+    let mut whole = whole_join(alloc, a, d, axis, By::Anc)?;
+    whole.retain(|pair| pair.d >= lo);
+    if pairs != whole {
+        Err("the range and the whole join by ancestor differ")?;
+    }
+    if !are_its_parts(alloc, &pairs, a.len() as u32)? {
+        Err("the pairs of all ancestors are not all pairs")?;
+    }
+    Ok(pairs)
+}
+
+// Whether the pairs of each ancestor begin where those before it end, and are all pairs together.
+fn are_its_parts(alloc: Global, pairs: &[Pair], ancestors: u32) -> Result<bool, AllocError>
+    requires rises { IsNonDecreasingBy (λ p. p.a) pairs.now }
+{
+    let mut all: Vec<Pair> = Vec::new(alloc);
+    'ancestors: for ancestor in 0..ancestors {
+        if start_of(pairs, ancestor) != all.len() {
+            return Ok(false);
+        }
+        all.extend_from_slice(pairs_of(pairs, ancestor))?;
+        if end_of(pairs, ancestor) != all.len() {
+            return Ok(false);
+        }
+    }
+    Ok(all.as_slice() == pairs)
+}
+
+// Joins the range from place `lo` to the end of `d` in both orders.
 fn joined<L: Ledger>(
     alloc: Global,
     blank: Blank,
@@ -67,23 +147,17 @@ fn joined<L: Ledger>(
     if !are_joinable(a, d) {
         Err("the lists can't be joined")?;
     }
-    let Seed { from, places } = seed_of(alloc, a, d, lo)?;
-    let hi = d.len() as u32;
+    let seed = seed_of(alloc, a, d, lo)?;
     let a = items_of(alloc, a)?;
     let d = items_of(alloc, d)?;
     let mut steps = Steps::<L>::new(blank);
-    let pairs = join_desc(alloc, &a, &d, &places, from, lo, hi, axis, &mut steps)?;
-    let plain = naive_join(alloc, &a, &d, lo, hi, axis, &mut steps)?;
-    if pairs != plain {
-        Err("the join and its twin differ")?;
-    }
-    let whole = whole_join(alloc, &a, &d, axis)?;
-    if !whole.ends_with(&pairs) {
-        Err("the range and the whole join differ")?;
-    }
+    let by_descendant = by_descendant(alloc, &a, &d, &seed, lo, axis, &mut steps)?;
+    let by_ancestor = by_ancestor(alloc, &a, &d, &seed, lo, axis, &mut steps)?;
+    let Seed { places, .. } = seed;
     Ok(Outcome {
         seed: places,
-        pairs,
+        by_descendant,
+        by_ancestor,
     })
 }
 
@@ -112,7 +186,7 @@ fn pairs_in_all(alloc: Global, a: &[Known], d: &[Known], axis: Axis) -> Result<u
     for lo in [d.len() / 3, d.len() / 2, d.len()] {
         joined_from(alloc, a, d, lo, axis)?;
     }
-    Ok(joined_from(alloc, a, d, 0, axis)?.pairs.len())
+    Ok(joined_from(alloc, a, d, 0, axis)?.by_ancestor.len())
 }
 
 // As many nodes inside each other as an u16 can count, or fewer.
@@ -153,20 +227,45 @@ const LOWER: &[(u32, u32, u16)] = &[(4, 5, 3), (6, 7, 3), (10, 11, 3)];
 const BEHIND: &[(u32, u32, u16)] = &[(14, 17, 1), (15, 16, 2)];
 
 #[test]
-fn nested_elements_join_with_each_open_ancestor(rt: HostRuntime) -> Result<(), Fail> {
-    let list = known_list(rt.alloc(), NESTED)?;
+fn small_lists_have_the_pairs_that_were_worked_by_hand(rt: HostRuntime) -> Result<(), Fail> {
     let none: &[u32] = &[];
     let all: &[(u32, u32)] = &[(0, 1), (0, 2), (1, 2)];
+    let parents: &[(u32, u32)] = &[(0, 1), (1, 2)];
+    let below: &[(u32, u32)] = &[(0, 2), (1, 2)];
     let rows = [
-        (0, Axis::Descendant, none, all),
-        (0, Axis::Child, none, &[(0, 1), (1, 2)]),
-        (2, Axis::Descendant, &[0, 1], &[(0, 2), (1, 2)]),
-        (2, Axis::Child, &[0, 1], &[(1, 2)]),
+        (NESTED, 0, Axis::Descendant, none, all, all),
+        (NESTED, 0, Axis::Child, none, parents, parents),
+        (NESTED, 2, Axis::Descendant, &[0, 1], below, below),
+        (NESTED, 2, Axis::Child, &[0, 1], &[(1, 2)], &[(1, 2)]),
+        (
+            TREE,
+            2,
+            Axis::Descendant,
+            &[0, 1],
+            &[(0, 2), (1, 2), (0, 3), (1, 3), (0, 4), (0, 5), (4, 5)],
+            &[(0, 2), (0, 3), (0, 4), (0, 5), (1, 2), (1, 3), (4, 5)],
+        ),
+        (
+            TREE,
+            0,
+            Axis::Child,
+            none,
+            &[(0, 1), (1, 2), (1, 3), (0, 4), (4, 5)],
+            &[(0, 1), (0, 4), (1, 2), (1, 3), (4, 5)],
+        ),
     ];
-    for (lo, axis, seed, pairs) in rows {
+    for (list, lo, axis, seed, by_descendant, by_ancestor) in rows {
+        let list = known_list(rt.alloc(), list)?;
         let outcome = joined_from(rt.alloc(), &list, &list, lo, axis)?;
         assert_eq!(rt; outcome.seed.as_slice(), seed);
-        assert_eq!(rt; numbers_of(rt.alloc(), &outcome.pairs)?.as_slice(), pairs);
+        assert_eq!(rt;
+            numbers_of(rt.alloc(), &outcome.by_descendant)?.as_slice(),
+            by_descendant
+        );
+        assert_eq!(rt;
+            numbers_of(rt.alloc(), &outcome.by_ancestor)?.as_slice(),
+            by_ancestor
+        );
     }
     Ok(())
 }

@@ -1,13 +1,9 @@
 -- The matches that the pairs of a structural join stand for.
-use Rattle.std.specs.Prelude.{ℕ, ◌<◌, List, All, length, slice_index_or}
-use Rattle.tb_span.specs.Seeds.{no_item}
+use Rattle.std.specs.Prelude.{ℕ, ◌<◌, List, All, length}
+use Rattle.tb_span.specs.Seeds.{item_at}
 use Rattle.tb_span.specs.declared.item.Item.{Item}
 use Rattle.tb_span.specs.declared.item.Pair.{Pair}
 use Rattle.tb_top.specs.declared.matching.Match.{Match}
-
--- the item at a place, from 0
-abbrev pub item_at : List Item → ℕ → Item
-item_at items place = slice_index_or items place no_item
 
 -- one of the two places of each pair is a place in this list
 abbrev pub ArePlaces : (Pair → ℕ) → List Item → List Pair → Type 0

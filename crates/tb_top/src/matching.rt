@@ -1,19 +1,19 @@
 //! Which nodes match a query of two names: two structural joins over the labels of a store.
 
-ghost use Rattle.std.specs.Prelude.{◌≡◌, ◌<◌, IfOk, OnOk, length, map};
+ghost use Rattle.std.specs.Prelude.{◌≡◌, ◌<◌, IfOk, length, map};
 ghost use Rattle.tb_tree.specs.View.{plain_of};
 ghost use Rattle.tb_tree.specs.declared.node_test.Test.TheVariants.{Name};
+ghost use Rattle.tb_span.specs.Seeds.{item_at};
 ghost use Rattle.tb_label.specs.Rows.{listed};
-ghost use Rattle.tb_stackjoin.specs.Pairs.{AreByAncestor};
 ghost use Rattle.tb_pattern.specs.Witness.{naive_witnesses, numbers_in};
 ghost use Rattle.tb_top.specs.Answer.{two_names};
 ghost use Rattle.tb_top.specs.Pairs.{numbers_of};
-ghost use Rattle.tb_top.specs.Joined.{item_at, match_at, ArePlaces};
+ghost use Rattle.tb_top.specs.Joined.{match_at, ArePlaces};
 
 use std::alloc::{AllocError, Global};
 use tb_label::Store;
 use tb_span::{Axis, Item, Pair};
-use tb_stackjoin::whole_join;
+use tb_stackjoin::{By, whole_join};
 use tb_tree::{Bytes, Test};
 
 /// A node of the first name and a node of the second below it, each by its number in document
@@ -38,8 +38,7 @@ pub fn matches(
     let second = named(alloc, second)?;
     let firsts = below_document(alloc, store, &first)?;
     let seconds = store.list(&second);
-    let mut pairs = whole_join(alloc, &firsts, seconds, Axis::Descendant)?;
-    put_by_ancestor(&mut pairs)?;
+    let pairs = whole_join(alloc, &firsts, seconds, Axis::Descendant, By::Anc)?;
     let found = matches_of(alloc, &firsts, seconds, &pairs)?;
     Ok(found)
 }
@@ -56,7 +55,13 @@ fn below_document(alloc: Global, store: &Store, test: &Test) -> Result<Vec<Item>
     ensures { IfOk result (λ items. items.items ≡ listed test.now (plain_of store.now)) }
 {
     let list = store.list(test);
-    let pairs = whole_join(alloc, store.document_item(), list, Axis::Descendant)?;
+    let pairs = whole_join(
+        alloc,
+        store.document_item(),
+        list,
+        Axis::Descendant,
+        By::Desc,
+    )?;
     let items = descendants_of(alloc, list, &pairs)?;
     Ok(items)
 }
@@ -71,19 +76,6 @@ fn descendants_of(alloc: Global, list: &[Item], pairs: &[Pair]) -> Result<Vec<It
         items.push(*item_of(list, pair.d))?;
     }
     Ok(items)
-}
-
-/// Puts the pairs in the order of their ancestors; those of one ancestor stay in the order that
-/// they have. Where no ancestor stands inside another they are in that order already, and left
-/// alone.
-fn put_by_ancestor(pairs: &mut Vec<Pair>) -> Result<(), AllocError>
-    ensures { OnOk result (AreByAncestor pairs.old.items pairs.new.items) }
-{
-    if pairs.is_sorted_by_key(|pair| pair.a) {
-        return Ok(());
-    }
-    pairs.sort_by_key(|pair| pair.a)?;
-    Ok(())
 }
 
 /// Each pair of places as the numbers of its two nodes.

@@ -1,7 +1,7 @@
 -- What filters keep of a list, and of what another filter has kept.
-use Rattle.std.proofs.Common.{◌≡◌, Bool, true, false, cond, List, [], ◌∷◌, ◌++◌, All, filter, map, refl, sym, ap, ap₂, ◌∙◌, append-nil}
+use Rattle.std.proofs.Common.{◌≡◌, Bool, true, false, cond, List, [], ◌∷◌, ◌++◌, All, filter, map, flat_map, ◌&&◌, refl, sym, ap, ap₂, ◌∙◌, append-nil}
 use Rattle.std.proofs.lemmas.Bool.{cond-true, cond-false, false≢true, false_from_ne_true}
-use Rattle.std.proofs.lemmas.List.Elements.{All-head, All-tail, filter-append}
+use Rattle.std.proofs.lemmas.List.Elements.{All-nil, All-cons, All-head, All-tail, filter-append}
 
 pub filter-keep : {X : Type 0} (f : X → Bool) (x : X) (xs : List X) → f x ≡ true → filter f (x ∷ xs) ≡ x ∷ filter f xs
 filter-keep f x xs e = cond-true (f x) (x ∷ filter f xs) (filter f xs) e
@@ -64,3 +64,32 @@ filter-map f g (x ∷ xs) = by (f (g x)) (filter-map f g xs)
         → cond b (g x ∷ filter f (map g xs)) (filter f (map g xs)) ≡ map g (cond b (x ∷ filter (λ y. f (g y)) xs) (filter (λ y. f (g y)) xs))
     by true same = ap (λ r. g x ∷ r) same
     by false same = same
+
+pub filter-flat_map : {X Y : Type 0} (f : Y → Bool) (g : X → List Y) (xs : List X) → filter f (flat_map g xs) ≡ flat_map (λ x. filter f (g x)) xs
+filter-flat_map f g [] = refl
+filter-flat_map f g (x ∷ xs) = filter-append f (g x) (flat_map g xs) ∙ ap (λ ys. filter f (g x) ++ ys) (filter-flat_map f g xs)
+
+-- a test that says the same of all
+pub filter-fixed : {X : Type 0} (b : Bool) (xs : List X) → filter (λ x. b) xs ≡ cond b xs []
+filter-fixed true [] = refl
+filter-fixed true (x ∷ xs) = ap (λ ys. x ∷ ys) (filter-fixed true xs)
+filter-fixed false [] = refl
+filter-fixed false (x ∷ xs) = filter-fixed false xs
+
+-- two filters as one
+pub both_filters : {X : Type 0} (f g w : X → Bool) → ((x : X) → w x ≡ (g x && f x)) → (xs : List X) → filter f (filter g xs) ≡ filter w xs
+both_filters f g w both [] = refl
+both_filters f g w both (x ∷ xs) = by (g x) (both x) (both_filters f g w both xs)
+  where
+    by : (b : Bool) → w x ≡ (b && f x) → filter f (filter g xs) ≡ filter w xs → filter f (cond b (x ∷ filter g xs) (filter g xs)) ≡ filter w (x ∷ xs)
+    by true is e = rw (is, e) refl
+    by false is e = rw is e
+
+-- what holds of all that pass holds of each that passes
+pub All-unfilter : {X : Type 0} (f : X → Bool) (P : X → Type 0) (xs : List X) → All P (filter f xs) → All (λ x. f x ≡ true → P x) xs
+All-unfilter f P [] h = All-nil (λ x. f x ≡ true → P x)
+All-unfilter f P (x ∷ xs) h = at (f x) refl h (All-unfilter f P xs)
+  where
+    at : (b : Bool) → f x ≡ b → All P (cond b (x ∷ filter f xs) (filter f xs)) → (All P (filter f xs) → All (λ y. f y ≡ true → P y) xs) → All (λ y. f y ≡ true → P y) (x ∷ xs)
+    at true e h rest = All-cons (λ y. f y ≡ true → P y) x xs (λ t. All-head P x (filter f xs) h) (rest (All-tail P x (filter f xs) h))
+    at false e h rest = All-cons (λ y. f y ≡ true → P y) x xs (λ t. absurd (false≢true (sym e ∙ t))) (rest h)

@@ -7,6 +7,7 @@ use Rattle.tb_token.proofs.lexing.LexemeLaws.{rise-few, toks-length}
 use Rattle.std.specs.Prelude.{Ok}
 use Rattle.tb_flwor.specs.Built.{Asks}
 use Rattle.tb_flwor.specs.Calls.{Checks}
+use Rattle.tb_flwor.proofs.PlannableLaws.{read-plannable}
 use Rattle.tb_flwor.proofs.QueryBuilding.{query-comes}
 use Rattle.tb_flwor.proofs.query.read_query.Goals as goal
 
@@ -23,8 +24,8 @@ check-requires c =
     let short = c.in_ok-tokens.ensures.0 in
     omega (arith, toks-length 1 text cut)
 
-pub returns : goal.returns
-returns c =
+pub returns-clause-reads : goal.returns-clause-reads
+returns-clause-reads c =
     let text = c.args.text.now in
     let cut = c.in_ok-tokens.tokens.items in
     let s = toks_of text cut in
@@ -33,3 +34,6 @@ returns c =
     let asks : Asks s c.in_ok-query.field-0 = rw (c.as_slice-3.ensures.value, lexemes_are) at c.in_ok-query.ensures in
     let digits = digits-of_cut text cut None c.in_ok-tokens.ensures.1 in
     (cut, (c.in_ok-tokens.ensures, (checked.0, asks (query-comes s checked.0.0 checked.0.1 digits))))
+
+pub returns-clause-plannable : goal.returns-clause-plannable
+returns-clause-plannable c = read-plannable c.args.text.now c.in_ok-query.field-0 (returns-clause-reads c)

@@ -1,5 +1,5 @@
 use Rattle.std.proofs.Common.{◌≡◌, map, take}
-use Rattle.tb_top.specs.Joined.{item_at}
+use Rattle.tb_span.specs.Seeds.{item_at}
 use Rattle.tb_top.proofs.matching.descendants_of.Given as goal
 
 -- the descendants of the pairs so far

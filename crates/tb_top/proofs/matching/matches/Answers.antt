@@ -13,19 +13,19 @@ whole_join-requires-clause-joinable c = rw (c.deref.ensures.value, c.in_ok-first
 pub matches_of-requires-clause-firsts : goal.matches_of-requires-clause-firsts
 matches_of-requires-clause-firsts c =
     rw (c.deref-3.ensures.value, c.deref-2.ensures.value, sym c.deref.ensures.value)
-    (places_within c.deref.result.now c.list-seconds.result.now c.in_ok-pairs.pairs.items c.put_by_ancestor.new.pairs.items c.in_ok-pairs.ensures c.in_ok-put_by_ancestor.ensures).0
+    (places_within c.deref.result.now c.list-seconds.result.now c.in_ok-pairs.pairs.items c.in_ok-pairs.ensures).0
 
 pub matches_of-requires-clause-seconds : goal.matches_of-requires-clause-seconds
 matches_of-requires-clause-seconds c =
     rw c.deref-3.ensures.value
-    (places_within c.deref.result.now c.list-seconds.result.now c.in_ok-pairs.pairs.items c.put_by_ancestor.new.pairs.items c.in_ok-pairs.ensures c.in_ok-put_by_ancestor.ensures).1
+    (places_within c.deref.result.now c.list-seconds.result.now c.in_ok-pairs.pairs.items c.in_ok-pairs.ensures).1
 
 pub returns : goal.returns
 returns c =
     let root = plain_of c.args.store.now in
     ap (map numbers_of) c.in_ok-found.ensures
     ∙ rw (c.deref-3.ensures.value, c.deref-2.ensures.value, sym c.deref.ensures.value)
-    (matches-found c.args.first.now c.args.second.now root c.deref.result.now c.list-seconds.result.now c.in_ok-pairs.pairs.items c.put_by_ancestor.new.pairs.items
+    (matches-found c.args.first.now c.args.second.now root c.deref.result.now c.list-seconds.result.now c.in_ok-pairs.pairs.items
     (c.deref.ensures.value ∙ c.in_ok-firsts.ensures ∙ ap (λ test. listed test root) c.in_ok-first.ensures)
     (c.list-seconds.ensures.items ∙ ap (λ test. listed test root) c.in_ok-second.ensures)
-    c.in_ok-pairs.ensures c.in_ok-put_by_ancestor.ensures)
+    c.in_ok-pairs.ensures)

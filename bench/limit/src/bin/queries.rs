@@ -1,0 +1,40 @@
+//! Matches a pattern over the document on standard input: queries library|deep|vain ORDER [all].
+//!
+//! ORDER are the numbers of the edges, as 0,1,2; with `all` no list is narrowed. What it found goes to standard
+//! output, and how long each step took, in nanoseconds, to standard error.
+
+use limit::joins::join_edges;
+use limit::patterns::{DEEP, LIBRARY, VAIN};
+use limit::reader::read_tree;
+use limit::rows::{rows_below, sum_of};
+use limit::store::Store;
+use std::env;
+use std::io::{self, Read};
+use std::mem::forget;
+use std::time::Instant;
+
+fn main() -> io::Result<()> {
+    let words: Vec<String> = env::args().collect();
+    let edges = match words[1].as_str() {
+        "library" => LIBRARY,
+        "deep" => DEEP,
+        _ => VAIN,
+    };
+    let order: Vec<usize> = words[2].split(',').map(|word| word.parse().expect("a number")).collect();
+    let narrows = words.get(3).is_none();
+    let mut lines = Vec::new();
+    io::stdin().lock().read_to_end(&mut lines)?;
+    let document = read_tree(&lines).expect("a document without a fault");
+    drop(lines);
+    let store = Store::build(document);
+    let start = Instant::now();
+    let joined = join_edges(&store, edges, &order, narrows);
+    eprintln!("joins {}", start.elapsed().as_nanos());
+    let start = Instant::now();
+    let rows = rows_below(edges, 0, &joined, 0);
+    eprintln!("rows {}", start.elapsed().as_nanos());
+    println!("rows {}\nsum {}", rows.len(), sum_of(&rows));
+    eprintln!("read {}\npairs {}", joined.read, joined.pairs);
+    forget((store, rows));
+    Ok(())
+}

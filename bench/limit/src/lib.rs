@@ -1,0 +1,10 @@
+//! The limit of the design: what plain Rust does with the proved program's layout of documents.
+
+mod escapes;
+pub mod joins;
+pub mod lines;
+mod names;
+pub mod patterns;
+pub mod reader;
+pub mod rows;
+pub mod store;

@@ -1,0 +1,3 @@
+-- Laws of what ran of a join.
+pub mod TraceLaws
+pub mod WorkedRows

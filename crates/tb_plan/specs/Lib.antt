@@ -1,0 +1,3 @@
+-- Orders of a pattern's edges.
+pub mod Orders
+pub mod Marks

@@ -1,0 +1,2 @@
+-- Documents by name and by number.
+pub mod Documents

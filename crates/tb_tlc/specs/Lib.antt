@@ -1,0 +1,5 @@
+-- What plans mean, and the plans of `MATCH` queries.
+pub mod Meaning
+pub mod Matches
+pub mod Planned
+pub mod Returned

@@ -1,0 +1,14 @@
+//! Plans of queries: operators over one table, and what they mean over documents.
+//!
+//! `translate` makes the plan of a `MATCH` query. What is proved is that the plan means what the query
+//! means, over any documents.
+#![tactic(auto)]
+
+mod plan;
+mod planning;
+
+pub use plan::{ColumnStart, Op, Plan};
+pub use planning::translate;
+
+#[cfg(test)]
+mod tests;
