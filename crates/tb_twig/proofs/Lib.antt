@@ -1,0 +1,4 @@
+pub mod HasLaws
+pub mod NumberedLaws
+pub mod BuiltLaws
+pub mod StandsLaws

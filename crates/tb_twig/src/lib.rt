@@ -1,0 +1,7 @@
+//! Twig matching: the witnesses of a pattern, by one structural join an edge, in any order of the edges.
+#![tactic(auto)]
+
+mod link;
+
+pub use link::Link;
+pub use tb_pattern::{Offer, Witness};
