@@ -2,3 +2,5 @@ pub mod HasLaws
 pub mod NumberedLaws
 pub mod BuiltLaws
 pub mod StandsLaws
+pub mod TableLaws
+pub mod LinkLaws
