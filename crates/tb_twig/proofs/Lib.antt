@@ -4,3 +4,5 @@ pub mod BuiltLaws
 pub mod StandsLaws
 pub mod TableLaws
 pub mod LinkLaws
+pub mod WholeLaws
+pub mod OfferedLaws

@@ -61,10 +61,10 @@ linked-from alive n e (edge axis mark (matching test conds whole below) others) 
 lives-next : (es : PlainEdges) (f : ℕ) (v : Numbered) → lives es (f + 1) v ≡ has (witnesses_at (branch_at es f).to v)
 lives-next es f v = ap (λ n. lives es n v) (let g : f + 1 ≡ suc f = omega arith in g)
 
-from-zero : (P : ℕ → Branch → Type 0) (ss : List Branch) → ((f : ℕ) → f < length ss → P f (get_or ss f no_branch)) → AllFrom P 0 ss
+pub from-zero : (P : ℕ → Branch → Type 0) (ss : List Branch) → ((f : ℕ) → f < length ss → P f (get_or ss f no_branch)) → AllFrom P 0 ss
 from-zero P ss all = from-all P 0 ss no_branch (λ f less. subst (λ n. P n (get_or ss f no_branch)) (let g : f ≡ 0 + f = omega arith in g) (all f less))
 
-at-zero : (P : ℕ → Branch → Type 0) (ss : List Branch) (f : ℕ) → f < length ss → AllFrom P 0 ss → P f (get_or ss f no_branch)
+pub at-zero : (P : ℕ → Branch → Type 0) (ss : List Branch) (f : ℕ) → f < length ss → AllFrom P 0 ss → P f (get_or ss f no_branch)
 at-zero P ss f less all = subst (λ n. P n (get_or ss f no_branch)) (let g : 0 + f ≡ f = omega arith in g) (at-place P 0 ss no_branch f less all)
 
 pub linked : (es : PlainEdges) (e : ℕ) → e < length (branches_of es) → IsLinked (lives es) e (branch_at es e)

@@ -2,3 +2,4 @@
 -- trace of the joins says.
 pub mod Branches
 pub mod Links
+pub mod Offered

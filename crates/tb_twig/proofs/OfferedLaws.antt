@@ -1,0 +1,96 @@
+-- The nodes that rows offer for an edge are lower nodes of its pairs; so there are no more different ones than
+-- nodes in the list that was joined for it.
+use Rattle.std.proofs.Common.{◌≡◌, ℕ, zero, suc, ◌+◌, ◌<◌, ◌≤◌, Bool, true, false, cond, not, ◌&&◌, ◌||◌, nat_eq, ◌⊎◌, inl, inr, List, [], ◌∷◌, ◌++◌, length, map, filter, flat_map, refl, sym, ap, ap₂, ◌∙◌, subst, arith}
+use Rattle.std.specs.List.{AllByRecursion, list_any}
+use Rattle.std.proofs.lemmas.Bool.{cond-true, cond-false, false≢true, or_cases, or_left, or_right, eqb-true, eq-eqb, ne_eqb, not_from_true, not_from_false}
+use Rattle.tb_tree.specs.Plain.{Plain}
+use Rattle.tb_tree.specs.Numbers.{Numbered}
+use Rattle.tb_tree.proofs.lists.Alls.{all-append, all-both, all-weaker}
+use Rattle.tb_span.specs.declared.item.Axis.{Axis}
+use Rattle.tb_pattern.specs.Plain.{PlainPattern, matching, PlainEdges, no_edges, edge, nodes_in}
+use Rattle.tb_pattern.specs.Witness.{Witness, witness, Offers, no_offers, offer, Witnesses, no_witnesses, then_witness, together, each_alone, offered}
+use Rattle.tb_pattern.specs.declared.pattern.Mark.{Mark}
+use Rattle.tb_pattern.specs.declared.pattern.Mark.TheVariants.{One, Optional, Some, Any}
+use Rattle.tb_twig.specs.Branches.{Branch, branches, axis_of}
+use Rattle.tb_twig.specs.Offered.{offered_for, offered_by_all, offered_by, different}
+use Rattle.tb_twig.proofs.BuiltLaws.{built, AllFrom, parts-of, Closed}
+
+all-flat_map : {X Y : Type 0} (P : Y → Type 0) (f : X → List Y) (xs : List X) → AllByRecursion (λ x. AllByRecursion P (f x)) xs → AllByRecursion P (flat_map f xs)
+all-flat_map P f [] all = tt
+all-flat_map P f (x ∷ xs) all = all-append P (f x) (flat_map f xs) all.0 (all-flat_map P f xs all.1)
+
+all-map : {X Y : Type 0} (P : Y → Type 0) (f : X → Y) (xs : List X) → AllByRecursion (λ x. P (f x)) xs → AllByRecursion P (map f xs)
+all-map P f [] all = tt
+all-map P f (x ∷ xs) all = (all.0, all-map P f xs all.1)
+
+all-passing : {X : Type 0} (P : X → Type 0) (p : X → Bool) (xs : List X) → AllByRecursion (λ x. p x ≡ true → P x) xs → AllByRecursion P (filter p xs)
+all-passing P p [] all = tt
+all-passing P p (x ∷ xs) all = at (p x) refl (all-passing P p xs all.1)
+  where
+    at : (b : Bool) → p x ≡ b → AllByRecursion P (filter p xs) → AllByRecursion P (cond b (x ∷ filter p xs) (filter p xs))
+    at true e rest = (all.0 e, rest)
+    at false e rest = rest
+
+module _ (Q : ℕ → Type 0) (t : ℕ) where
+  -- what witnesses offer is what each of them offers
+  all-together : (e : ℕ) (below : PlainEdges) (ws : List Witness) → AllByRecursion (λ w. AllByRecursion Q (offered_by t e below w)) ws → AllByRecursion Q (offered_by_all t e below (together ws))
+  all-together e below [] all = tt
+  all-together e below (w ∷ ws) all = all-append Q (offered_by t e below w) (offered_by_all t e below (together ws)) all.0 (all-together e below ws all.1)
+
+  all-alone : (e : ℕ) (below : PlainEdges) (ws : List Witness) → AllByRecursion (λ w. AllByRecursion Q (offered_by t e below w)) ws
+      → AllByRecursion (λ os. AllByRecursion Q (offered_by_all t e below os)) (each_alone ws)
+  all-alone e below [] all = tt
+  all-alone e below (w ∷ ws) all = (all-append Q (offered_by t e below w) [] all.0 tt, all-alone e below ws all.1)
+
+  all-offered : (e : ℕ) (below : PlainEdges) (mark : Mark) (ws : List Witness) → AllByRecursion (λ w. AllByRecursion Q (offered_by t e below w)) ws
+      → AllByRecursion (λ os. AllByRecursion Q (offered_by_all t e below os)) (offered mark ws)
+  all-offered e below One ws all = all-alone e below ws all
+  all-offered e below Optional [] all = (tt, tt)
+  all-offered e below Optional (w ∷ ws) all = all-alone e below (w ∷ ws) all
+  all-offered e below Some [] all = tt
+  all-offered e below Some (w ∷ ws) all = (all-together e below (w ∷ ws) all, tt)
+  all-offered e below Any ws all = (all-together e below ws all, tt)
+
+  -- the lower nodes of the pairs of edge t are such nodes
+  abbrev pub Offers_of : (Numbered → Type 0) → (ℕ → Numbered → Numbered → Bool) → ℕ → Branch → Type 0
+  Offers_of In pairs f s = (u : Numbered) → In u → AllByRecursion (λ v. nat_eq t f ≡ true → pairs f u v ≡ true → Q v.number) (axis_of s.axis u)
+
+  own : (e : ℕ) (b : Bool) (n : ℕ) → (b ≡ true → Q n) → AllByRecursion Q (cond b (n ∷ []) [])
+  own e true n is = (is refl, tt)
+  own e false n is = tt
+
+  pub offered-found : (In : Numbered → Type 0) → Closed In → (pairs : ℕ → Numbered → Numbered → Bool) (n e : ℕ) (es : PlainEdges) → AllFrom (Offers_of In pairs) e (branches n e es)
+      → (u : Numbered) → In u → AllByRecursion (λ row. AllByRecursion Q (offered_for t e es row)) (built pairs e es u)
+  offered-found In closed pairs n e no_edges are u here = (tt, tt)
+  offered-found In closed pairs n e (edge axis mark (matching test conds whole below) others) are u here =
+      let to = matching test conds whole below in
+      let p = parts-of (Offers_of In pairs) n e axis mark to below others are in
+      let vs = axis_of axis u in
+      let behind = built pairs (e + 1 + nodes_in below) others u in
+      let found = λ (v : Numbered). map (witness v.number v.node) (built pairs (e + 1) below v) in
+      let rest = offered-found In closed pairs n (e + 1 + nodes_in below) others p.behind u here in
+      let each =
+      all-passing (λ v. AllByRecursion (λ w. AllByRecursion Q (offered_by t e below w)) (found v)) (pairs e u) vs
+      (all-weaker (λ v. (nat_eq t e ≡ true → pairs e u v ≡ true → Q v.number) × In v) (λ v. pairs e u v ≡ true → AllByRecursion (λ w. AllByRecursion Q (offered_by t e below w)) (found v)) vs
+      (λ v k pair.
+      all-map (λ w. AllByRecursion Q (offered_by t e below w)) (witness v.number v.node) (built pairs (e + 1) below v)
+      (all-weaker (λ row. AllByRecursion Q (offered_for t (e + 1) below row)) (λ row. AllByRecursion Q (offered_by t e below (witness v.number v.node row))) (built pairs (e + 1) below v)
+      (λ row all. all-append Q (cond (nat_eq t e) (v.number ∷ []) []) (offered_for t (e + 1) below row) (own e (nat_eq t e) v.number (λ g. k.0 g pair)) all)
+      (offered-found In closed pairs (e + 1) (e + 1) below p.inside v k.1)))
+      (all-both (λ v. nat_eq t e ≡ true → pairs e u v ≡ true → Q v.number) In vs (p.this u here) (closed axis u here))) in
+      all-flat_map (λ row. AllByRecursion Q (offered_for t e (edge axis mark to others) row)) (λ os. map (offer os) behind) (offered mark (flat_map found (filter (pairs e u) vs)))
+      (all-weaker (λ os. AllByRecursion Q (offered_by_all t e below os)) (λ os. AllByRecursion (λ row. AllByRecursion Q (offered_for t e (edge axis mark to others) row)) (map (offer os) behind))
+      (offered mark (flat_map found (filter (pairs e u) vs)))
+      (λ os all.
+      all-map (λ row. AllByRecursion Q (offered_for t e (edge axis mark to others) row)) (offer os) behind
+      (all-weaker (λ row. AllByRecursion Q (offered_for t (e + 1 + nodes_in below) others row)) (λ row. AllByRecursion Q (offered_for t e (edge axis mark to others) (offer os row))) behind
+      (λ row more. all-append Q (offered_by_all t e below os) (offered_for t (e + 1 + nodes_in below) others row) all more) rest))
+      (all-offered e below mark (flat_map found (filter (pairs e u) vs))
+      (all-flat_map (λ w. AllByRecursion Q (offered_by t e below w)) found (filter (pairs e u) vs) each)))
+
+-- Different numbers of a list are no more than the list has places.
+without : ℕ → List ℕ → List ℕ
+without n ys = filter (λ y. not (nat_eq n y)) ys
+
+abbrev IsIn : List ℕ → ℕ → Type 0
+IsIn ys x = list_any (nat_eq x) ys ≡ true
