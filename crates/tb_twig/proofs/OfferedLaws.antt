@@ -2,7 +2,7 @@
 -- nodes in the list that was joined for it.
 use Rattle.std.proofs.Common.{◌≡◌, ℕ, zero, suc, ◌+◌, ◌<◌, ◌≤◌, Bool, true, false, cond, not, ◌&&◌, ◌||◌, nat_eq, ◌⊎◌, inl, inr, List, [], ◌∷◌, ◌++◌, length, map, filter, flat_map, refl, sym, ap, ap₂, ◌∙◌, subst, arith}
 use Rattle.std.specs.List.{AllByRecursion, list_any}
-use Rattle.std.proofs.lemmas.Bool.{cond-true, cond-false, false≢true, or_cases, or_left, or_right, eqb-true, eq-eqb, ne_eqb, not_from_true, not_from_false}
+use Rattle.std.proofs.lemmas.Bool.{cond-true, cond-false, false≢true, or_cases, or_parts, or_left, or_right, eqb-true, eq-eqb, ne_eqb, not_from_true, not_from_false}
 use Rattle.tb_tree.specs.Plain.{Plain}
 use Rattle.tb_tree.specs.Numbers.{Numbered}
 use Rattle.tb_tree.proofs.lists.Alls.{all-append, all-both, all-weaker}
@@ -89,8 +89,61 @@ module _ (Q : ℕ → Type 0) (t : ℕ) where
       (all-flat_map (λ w. AllByRecursion Q (offered_by t e below w)) found (filter (pairs e u) vs) each)))
 
 -- Different numbers of a list are no more than the list has places.
-without : ℕ → List ℕ → List ℕ
+abbrev without : ℕ → List ℕ → List ℕ
 without n ys = filter (λ y. not (nat_eq n y)) ys
 
-abbrev IsIn : List ℕ → ℕ → Type 0
+abbrev pub IsIn : List ℕ → ℕ → Type 0
 IsIn ys x = list_any (nat_eq x) ys ≡ true
+
+kept-in : (n z y : ℕ) (ys : List ℕ) (b : Bool) → not (nat_eq n y) ≡ b → nat_eq n z ≡ false → (nat_eq z y ≡ true) ⊎ IsIn (without n ys) z → IsIn (cond b (y ∷ without n ys) (without n ys)) z
+kept-in n z y ys true is other (inl e) = or_left (nat_eq z y) (list_any (nat_eq z) (without n ys)) e
+kept-in n z y ys true is other (inr e) = or_right (nat_eq z y) (list_any (nat_eq z) (without n ys)) e
+kept-in n z y ys false is other (inl e) =
+    absurd (false≢true (sym is ∙ not_from_false (nat_eq n y) (ap (nat_eq n) (sym (eqb-true z y e)) ∙ other)))
+kept-in n z y ys false is other (inr e) = e
+
+in-without : (n z : ℕ) (ys : List ℕ) → nat_eq n z ≡ false → IsIn ys z → IsIn (without n ys) z
+in-without n z [] other is = is
+in-without n z (y ∷ ys) other is = kept-in n z y ys (not (nat_eq n y)) refl other (at (or_cases (nat_eq z y) (list_any (nat_eq z) ys) is) (in-without n z ys other))
+  where
+    at : (nat_eq z y ≡ true) ⊎ (list_any (nat_eq z) ys ≡ true) → (IsIn ys z → IsIn (without n ys) z) → (nat_eq z y ≡ true) ⊎ IsIn (without n ys) z
+    at (inl e) rest = inl e
+    at (inr e) rest = inr (rest e)
+
+kept-shorter : (y : ℕ) (kept ys : List ℕ) (b : Bool) → length kept ≤ length ys → length (cond b (y ∷ kept) kept) ≤ length (y ∷ ys)
+kept-shorter y kept ys true less = omega (arith, less)
+kept-shorter y kept ys false less = omega (arith, less)
+
+no-longer : (n : ℕ) (ys : List ℕ) → length (without n ys) ≤ length ys
+no-longer n [] = omega arith
+no-longer n (y ∷ ys) = kept-shorter y (without n ys) ys (not (nat_eq n y)) (no-longer n ys)
+
+dropped-shorter : (n y : ℕ) (ys : List ℕ) (b : Bool) → not (nat_eq n y) ≡ b → (nat_eq n y ≡ true) ⊎ (length (without n ys) + 1 ≤ length ys) → length (without n ys) ≤ length ys
+    → length (cond b (y ∷ without n ys) (without n ys)) + 1 ≤ length (y ∷ ys)
+dropped-shorter n y ys true is (inl e) most = absurd (false≢true (sym (not_from_true (nat_eq n y) e) ∙ is))
+dropped-shorter n y ys true is (inr less) most = omega (arith, less)
+dropped-shorter n y ys false is some most = omega (arith, most)
+
+shorter : (n : ℕ) (ys : List ℕ) → IsIn ys n → length (without n ys) + 1 ≤ length ys
+shorter n [] is = absurd (false≢true is)
+shorter n (y ∷ ys) is = dropped-shorter n y ys (not (nat_eq n y)) refl (at (or_cases (nat_eq n y) (list_any (nat_eq n) ys) is) (shorter n ys)) (no-longer n ys)
+  where
+    at : (nat_eq n y ≡ true) ⊎ (list_any (nat_eq n) ys ≡ true) → (IsIn ys n → length (without n ys) + 1 ≤ length ys) → (nat_eq n y ≡ true) ⊎ (length (without n ys) + 1 ≤ length ys)
+    at (inl e) rest = inl e
+    at (inr e) rest = inr (rest e)
+
+none-equal : (n : ℕ) (xs : List ℕ) → list_any (nat_eq n) xs ≡ false → AllByRecursion (λ z. nat_eq n z ≡ false) xs
+none-equal n [] none = tt
+none-equal n (x ∷ xs) none = let parts = or_parts (nat_eq n x) (list_any (nat_eq n) xs) none in (parts.0, none-equal n xs parts.1)
+
+pub different-within : (xs ys : List ℕ) → AllByRecursion (IsIn ys) xs → different xs ≤ length ys
+different-within [] ys all = omega arith
+different-within (x ∷ xs) ys all = at (list_any (nat_eq x) xs) refl (different-within xs ys all.1) (different-within xs (without x ys))
+  where
+    at : (b : Bool) → list_any (nat_eq x) xs ≡ b → different xs ≤ length ys → (AllByRecursion (IsIn (without x ys)) xs → different xs ≤ length (without x ys)) → cond b (different xs) (1 + different xs) ≤ length ys
+    at true e same fewer = same
+    at false e same fewer =
+        let most =
+        fewer
+        (all-weaker (λ z. (nat_eq x z ≡ false) × IsIn ys z) (IsIn (without x ys)) xs (λ z k. in-without x z ys k.0 k.1) (all-both (λ z. nat_eq x z ≡ false) (IsIn ys) xs (none-equal x xs e) all.1)) in
+        omega (arith, most, shorter x ys all.0)

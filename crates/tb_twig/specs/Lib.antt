@@ -2,4 +2,6 @@
 -- trace of the joins says.
 pub mod Branches
 pub mod Links
+pub mod Grown
+pub mod Seen
 pub mod Offered

@@ -1,7 +1,9 @@
 //! Twig matching: the witnesses of a pattern, by one structural join an edge, in any order of the edges.
 #![tactic(auto)]
 
+mod copies;
 mod link;
+mod offers;
 
 pub use link::Link;
 pub use tb_pattern::{Offer, Witness};
