@@ -6,3 +6,5 @@ pub mod TableLaws
 pub mod LinkLaws
 pub mod WholeLaws
 pub mod OfferedLaws
+pub mod RunLaws
+pub mod RowsLaws

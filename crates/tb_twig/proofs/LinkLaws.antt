@@ -48,7 +48,7 @@ filter-flat_map : {X Y : Type 0} (p : Y → Bool) (f : X → List Y) (xs : List 
 filter-flat_map p f [] = refl
 filter-flat_map p f (x ∷ xs) = filter-append p (f x) (flat_map f xs) ∙ ap (λ ys. filter p (f x) ++ ys) (filter-flat_map p f xs)
 
-flat_map-alike : {X Y : Type 0} (f g : X → List Y) → ((x : X) → f x ≡ g x) → (xs : List X) → flat_map f xs ≡ flat_map g xs
+pub flat_map-alike : {X Y : Type 0} (f g : X → List Y) → ((x : X) → f x ≡ g x) → (xs : List X) → flat_map f xs ≡ flat_map g xs
 flat_map-alike f g alike [] = refl
 flat_map-alike f g alike (x ∷ xs) = ap₂ (λ a b. a ++ b) (alike x) (flat_map-alike f g alike xs)
 

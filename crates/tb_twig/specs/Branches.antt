@@ -8,7 +8,7 @@ use Rattle.tb_tree.specs.Meets.{meets}
 use Rattle.tb_tree.specs.Value.{value_of}
 use Rattle.tb_tree.specs.declared.node_test.Test.{Test}
 use Rattle.tb_tree.specs.declared.node_test.Test.TheVariants.{AnyElement}
-use Rattle.tb_pattern.specs.Plain.{PlainPattern, matching, PlainEdges, no_edges, edge, nodes_in}
+use Rattle.tb_pattern.specs.Plain.{PlainPattern, matching, PlainEdges, no_edges, edge, PlainEdge, nodes_in}
 use Rattle.tb_pattern.specs.Conditions.{all_hold}
 use Rattle.tb_pattern.specs.Witness.{on_axis}
 use Rattle.tb_pattern.specs.declared.pattern.Mark.{Mark}
@@ -39,6 +39,13 @@ branches_of edges = branches 0 0 edges
 
 abbrev pub branch_at : PlainEdges → ℕ → Branch
 branch_at edges e = slice_index_or (branches_of edges) e no_branch
+
+-- the edges below an edge
+abbrev pub inside : PlainPattern → PlainEdges
+inside (matching test conds whole edges) = edges
+
+abbrev pub below_of : PlainEdge → PlainEdges
+below_of e = inside e.to
 
 -- the test of a pattern node
 abbrev pub test_of : PlainPattern → Test

@@ -4,6 +4,8 @@
 mod copies;
 mod link;
 mod offers;
+mod rows;
+mod run;
 
 pub use link::Link;
 pub use tb_pattern::{Offer, Witness};
