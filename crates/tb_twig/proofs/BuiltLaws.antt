@@ -1,7 +1,7 @@
 -- Rows built from pairs of neighbouring pattern nodes are the naive ones, where each pair that is kept fits, and each
 -- pair that matters is kept.
 use Rattle.std.proofs.Common.{◌≡◌, ℕ, zero, suc, ◌+◌, ◌<◌, Bool, true, false, cond, ◌&&◌, ◌⊎◌, inl, inr, List, [], ◌∷◌, ◌++◌, length, get_or, map, filter, flat_map, refl, sym, ap, ap₂, ◌∙◌, subst, arith, length-append}
-use Rattle.std.specs.List.{AllByRecursion}
+use Rattle.std.specs.List.{AllByRecursion, list_any}
 use Rattle.std.proofs.lemmas.Bool.{cond-true, cond-false, false≢true, and_parts, and_from, cases_Bool, true_from_ne_false, false_from_ne_true}
 use Rattle.tb_tree.specs.Plain.{Plain, kids_of}
 use Rattle.tb_tree.specs.Numbers.{Numbered}
@@ -11,7 +11,8 @@ use Rattle.tb_pattern.specs.Plain.{PlainPattern, matching, PlainEdges, no_edges,
 use Rattle.tb_pattern.specs.Witness.{Witness, witness, Offers, no_offers, offer, offered, witnesses_at, choices}
 use Rattle.tb_pattern.specs.declared.pattern.Mark.{Mark}
 use Rattle.tb_twig.specs.Branches.{Branch, branches, fits, axis_of}
-use Rattle.tb_twig.proofs.HasLaws.{has, any, gives, has-map, has-none, has-flat_map, has-product, has-offered, gives-more, any-filter, any-more}
+use Rattle.tb_twig.specs.Narrowed.{is_met}
+use Rattle.tb_twig.proofs.HasLaws.{has, has-map, has-none, has-flat_map, has-product, has-offered, met-more, any-filter, any-more}
 
 -- The rows from pairs: those of edge e for which `pairs e` holds.
 abbrev pub built : (ℕ → Numbered → Numbered → Bool) → ℕ → PlainEdges → Numbered → List Offers
@@ -114,7 +115,7 @@ module _ (In : Numbered → Type 0) (closed : Closed In) (pairs : ℕ → Number
       ∙ has-built (e + 1) (e + 1) below p.inside v k.1 (sym (has-map (witness v.number v.node) (built pairs (e + 1) below v)) ∙ q.1))
       (all-both (λ v. pairs e u v ≡ true → fits to v ≡ true) In vs (p.this u here) (closed axis u here))) in
       let offers =
-      gives-more mark (has (flat_map found (filter (pairs e u) vs))) (has (flat_map (witnesses_at to) vs))
+      met-more mark (has (flat_map found (filter (pairs e u) vs))) (has (flat_map (witnesses_at to) vs))
       (λ f. has-flat_map (witnesses_at to) vs ∙ more (sym (any-filter (λ v. has (found v)) (pairs e u) vs) ∙ sym (has-flat_map found (filter (pairs e u) vs)) ∙ f))
       (sym (has-offered mark (flat_map found (filter (pairs e u) vs))) ∙ both.1) in
       has-product offer (offered mark (flat_map (witnesses_at to) vs)) (choices others u.number (kids_of u.node))

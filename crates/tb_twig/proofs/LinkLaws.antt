@@ -1,6 +1,6 @@
 -- Lists of nodes and links as a function of the rows of a document, and what narrowing makes of them.
-use Rattle.std.proofs.Common.{◌≡◌, ℕ, suc, ◌+◌, ◌<◌, ◌≤◌, Bool, true, false, cond, ◌&&◌, ◌||◌, nat_eq, List, [], ◌∷◌, ◌++◌, length, map, filter, flat_map, refl, sym, ap, ap₂, ◌∙◌, subst, arith}
-use Rattle.std.specs.List.{AllByRecursion}
+use Rattle.std.proofs.Common.{◌≡◌, ℕ, suc, ◌+◌, ◌<◌, ◌≤◌, Bool, true, false, cond, ◌&&◌, ◌||◌, nat_eq, List, [], ◌∷◌, ◌++◌, length, get_or, map, filter, flat_map, refl, sym, ap, ap₂, ◌∙◌, subst, arith}
+use Rattle.std.specs.List.{AllByRecursion, list_any}
 use Rattle.std.proofs.lemmas.Bool.{cond-true, cond-false, eq-eqb, ne_eqb, eqb-true, and_parts, and_from, or_left, or_right}
 use Rattle.std.proofs.lemmas.List.{map-append}
 use Rattle.std.proofs.lemmas.List.Elements.{filter-append, filter_agree}
@@ -9,8 +9,8 @@ use Rattle.std.proofs.lemmas.Simd.{map-map}
 use Rattle.tb_tree.specs.Plain.{Plain}
 use Rattle.tb_tree.specs.Numbers.{Numbered}
 use Rattle.tb_tree.proofs.lists.Alls.{all-both, all-weaker}
-use Rattle.tb_tree.proofs.lists.Filters.{filter-map}
-use Rattle.tb_tree.proofs.lists.Maps.{map-flat_map}
+use Rattle.tb_tree.proofs.lists.Filters.{filter-map, filter-flat_map, filter-fixed, both_filters}
+use Rattle.tb_tree.proofs.lists.Maps.{map-flat_map, flat_map_same}
 use Rattle.tb_span.specs.Lists.{is_related}
 use Rattle.tb_span.specs.declared.item.Axis.{Axis}
 use Rattle.tb_span.specs.declared.item.Item.{Item}
@@ -19,13 +19,11 @@ use Rattle.tb_pattern.specs.Plain.{PlainEdges}
 use Rattle.tb_twig.specs.Branches.{Branch, branch_at, axis_of}
 use Rattle.tb_twig.specs.Links.{run}
 use Rattle.tb_twig.specs.declared.link.Link.{Link}
-use Rattle.tb_twig.proofs.HasLaws.{has, any, gives, has-map, has-none, gives-more, any-filter, any-map, any-more, any-same}
+use Rattle.tb_twig.specs.Narrowed.{link, links_under, links_between, leads_from, leads_to, is_met}
+use Rattle.tb_twig.proofs.HasLaws.{has, has-map, has-none, met-more, any-filter, any-map, any-more, any-same}
 use Rattle.tb_twig.proofs.BuiltLaws.{kept_same}
 use Rattle.tb_twig.proofs.StandsLaws.{Narrows, Joins}
 use Rattle.tb_twig.proofs.TableLaws.{Member, Of, axis-found, table-count, alone-of, top_of, closed_of}
-
-abbrev pub link : ℕ → ℕ → Link
-link n m = record { above = n; below = m }
 
 -- the items of the rows whose nodes pass
 abbrev pub listed_by : (Numbered → Bool) → List Row → List Item
@@ -35,29 +33,9 @@ listed_by p rs = map item_of (filter (λ r. p (numbered_of r)) rs)
 abbrev pub links_of : Axis → (Numbered → Numbered → Bool) → List Row → List Link
 links_of axis p rs = flat_map (λ r. map (λ s. link r.number s.number) (filter (λ s. is_on axis r s && p (numbered_of r) (numbered_of s)) rs)) rs
 
--- Two filters are one.
-both-step : {X : Type 0} (f w : X → Bool) (x : X) (kept xs : List X) (b : Bool) → w x ≡ (b && f x) → filter f kept ≡ filter w xs → filter f (cond b (x ∷ kept) kept) ≡ filter w (x ∷ xs)
-both-step f w x kept xs true is e = rw (is, e) refl
-both-step f w x kept xs false is e = rw is e
-
-pub both_filters : {X : Type 0} (f g w : X → Bool) → ((x : X) → w x ≡ (g x && f x)) → (xs : List X) → filter f (filter g xs) ≡ filter w xs
-both_filters f g w both [] = refl
-both_filters f g w both (x ∷ xs) = both-step f w x (filter g xs) xs (g x) (both x) (both_filters f g w both xs)
-
-filter-flat_map : {X Y : Type 0} (p : Y → Bool) (f : X → List Y) (xs : List X) → filter p (flat_map f xs) ≡ flat_map (λ x. filter p (f x)) xs
-filter-flat_map p f [] = refl
-filter-flat_map p f (x ∷ xs) = filter-append p (f x) (flat_map f xs) ∙ ap (λ ys. filter p (f x) ++ ys) (filter-flat_map p f xs)
-
+-- two functions that agree
 pub flat_map-alike : {X Y : Type 0} (f g : X → List Y) → ((x : X) → f x ≡ g x) → (xs : List X) → flat_map f xs ≡ flat_map g xs
-flat_map-alike f g alike [] = refl
-flat_map-alike f g alike (x ∷ xs) = ap₂ (λ a b. a ++ b) (alike x) (flat_map-alike f g alike xs)
-
--- a test that says the same of all
-filter-fixed : {X : Type 0} (b : Bool) (xs : List X) → filter (λ x. b) xs ≡ cond b xs []
-filter-fixed true [] = refl
-filter-fixed true (x ∷ xs) = ap (λ ys. x ∷ ys) (filter-fixed true xs)
-filter-fixed false [] = refl
-filter-fixed false (x ∷ xs) = filter-fixed false xs
+flat_map-alike f g alike xs = flat_map_same f g xs (λ k d less. alike (get_or xs k d))
 
 map-cond : {X Y : Type 0} (f : X → Y) (b : Bool) (xs : List X) → map f (cond b xs []) ≡ cond b (map f xs) []
 map-cond f true xs = refl
@@ -95,22 +73,15 @@ runs-of root axis p u here =
     ∙ ap (map (λ (v : Numbered). v.number)) (sym (filter-map (p (numbered_of r)) numbered_of (filter (is_on axis r) rs)) ∙ ap (filter (p (numbered_of r))) (axis-found root axis r here.2))
     ∙ sym (ap (λ (w : Numbered). map (λ (v : Numbered). v.number) (filter (p w) (axis_of axis w))) here.1)
 
--- some link leads from, or to, the node of this number
-abbrev pub has_above : List Link → ℕ → Bool
-has_above links n = any (λ l. nat_eq l.above n) links
-
-abbrev pub has_below : List Link → ℕ → Bool
-has_below links n = any (λ l. nat_eq l.below n) links
-
-has-filter : {X : Type 0} (p : X → Bool) (xs : List X) → has (filter p xs) ≡ any p xs
+has-filter : {X : Type 0} (p : X → Bool) (xs : List X) → has (filter p xs) ≡ list_any p xs
 has-filter p [] = refl
 has-filter p (x ∷ xs) = at (p x) (has-filter p xs)
   where
-    at : (b : Bool) → has (filter p xs) ≡ any p xs → has (cond b (x ∷ filter p xs) (filter p xs)) ≡ (b || any p xs)
+    at : (b : Bool) → has (filter p xs) ≡ list_any p xs → has (cond b (x ∷ filter p xs) (filter p xs)) ≡ (b || list_any p xs)
     at true e = refl
     at false e = e
 
-pub above-of : (root : Plain) (axis : Axis) (p : Numbered → Numbered → Bool) (u : Numbered) → Of root u → has_above (links_of axis p (table root)) u.number ≡ any (p u) (axis_of axis u)
+pub above-of : (root : Plain) (axis : Axis) (p : Numbered → Numbered → Bool) (u : Numbered) → Of root u → leads_from (links_of axis p (table root)) u.number ≡ list_any (p u) (axis_of axis u)
 above-of root axis p u here =
     let links = links_of axis p (table root) in
     sym (has-filter (λ (l : Link). nat_eq l.above u.number) links)
@@ -119,7 +90,7 @@ above-of root axis p u here =
     ∙ has-map (λ (v : Numbered). v.number) (filter (p u) (axis_of axis u))
     ∙ has-filter (p u) (axis_of axis u)
 
-run-below : (links : List Link) (n m : ℕ) → any (λ k. nat_eq k m) (run links n) ≡ true → has_below links m ≡ true
+run-below : (links : List Link) (n m : ℕ) → list_any (λ k. nat_eq k m) (run links n) ≡ true → leads_to links m ≡ true
 run-below links n m some =
     any-more (λ (l : Link). nat_eq l.above n && nat_eq l.below m) (λ (l : Link). nat_eq l.below m) links (each links)
     (sym (any-filter (λ (l : Link). nat_eq l.below m) (λ l. nat_eq l.above n) links) ∙ sym (any-map (λ k. nat_eq k m) (λ (l : Link). l.below) (filter (λ l. nat_eq l.above n) links)) ∙ some)
@@ -129,25 +100,25 @@ run-below links n m some =
     each (l ∷ ls) = ((λ e. (and_parts (nat_eq l.above n) (nat_eq l.below m) e).1), each ls)
 
 -- each that passes is among those that pass
-any-itself : (p : Numbered → Bool) (vs : List Numbered) → AllByRecursion (λ v. p v ≡ true → any (λ k. nat_eq k v.number) (map (λ w. w.number) (filter p vs)) ≡ true) vs
+any-itself : (p : Numbered → Bool) (vs : List Numbered) → AllByRecursion (λ v. p v ≡ true → list_any (λ k. nat_eq k v.number) (map (λ w. w.number) (filter p vs)) ≡ true) vs
 any-itself p [] = tt
 any-itself p (x ∷ xs) =
-    ((λ e. rw e (or_left (nat_eq x.number x.number) (any (λ k. nat_eq k x.number) (map (λ (w : Numbered). w.number) (filter p xs))) (eq-eqb x.number x.number refl))),
-    all-weaker (λ v. p v ≡ true → any (λ k. nat_eq k v.number) (map (λ (w : Numbered). w.number) (filter p xs)) ≡ true)
-    (λ v. p v ≡ true → any (λ k. nat_eq k v.number) (map (λ (w : Numbered). w.number) (filter p (x ∷ xs))) ≡ true) xs
+    ((λ e. rw e (or_left (nat_eq x.number x.number) (list_any (λ k. nat_eq k x.number) (map (λ (w : Numbered). w.number) (filter p xs))) (eq-eqb x.number x.number refl))),
+    all-weaker (λ v. p v ≡ true → list_any (λ k. nat_eq k v.number) (map (λ (w : Numbered). w.number) (filter p xs)) ≡ true)
+    (λ v. p v ≡ true → list_any (λ k. nat_eq k v.number) (map (λ (w : Numbered). w.number) (filter p (x ∷ xs))) ≡ true) xs
     (λ v k e. at v (p x) (k e)) (any-itself p xs))
   where
-    at : (v : Numbered) (b : Bool) → any (λ k. nat_eq k v.number) (map (λ (w : Numbered). w.number) (filter p xs)) ≡ true
-        → any (λ k. nat_eq k v.number) (map (λ (w : Numbered). w.number) (cond b (x ∷ filter p xs) (filter p xs))) ≡ true
-    at v true e = or_right (nat_eq x.number v.number) (any (λ k. nat_eq k v.number) (map (λ (w : Numbered). w.number) (filter p xs))) e
+    at : (v : Numbered) (b : Bool) → list_any (λ k. nat_eq k v.number) (map (λ (w : Numbered). w.number) (filter p xs)) ≡ true
+        → list_any (λ k. nat_eq k v.number) (map (λ (w : Numbered). w.number) (cond b (x ∷ filter p xs) (filter p xs))) ≡ true
+    at v true e = or_right (nat_eq x.number v.number) (list_any (λ k. nat_eq k v.number) (map (λ (w : Numbered). w.number) (filter p xs))) e
     at v false e = e
 
 pub below-of : (root : Plain) (axis : Axis) (p : Numbered → Numbered → Bool) (u : Numbered) → Of root u
-    → AllByRecursion (λ v. p u v ≡ true → has_below (links_of axis p (table root)) v.number ≡ true) (axis_of axis u)
+    → AllByRecursion (λ v. p u v ≡ true → leads_to (links_of axis p (table root)) v.number ≡ true) (axis_of axis u)
 below-of root axis p u here =
-    all-weaker (λ v. p u v ≡ true → any (λ k. nat_eq k v.number) (map (λ (w : Numbered). w.number) (filter (p u) (axis_of axis u))) ≡ true)
-    (λ v. p u v ≡ true → has_below (links_of axis p (table root)) v.number ≡ true) (axis_of axis u)
-    (λ v k e. run-below (links_of axis p (table root)) u.number v.number (ap (any (λ k. nat_eq k v.number)) (runs-of root axis p u here) ∙ k e))
+    all-weaker (λ v. p u v ≡ true → list_any (λ k. nat_eq k v.number) (map (λ (w : Numbered). w.number) (filter (p u) (axis_of axis u))) ≡ true)
+    (λ v. p u v ≡ true → leads_to (links_of axis p (table root)) v.number ≡ true) (axis_of axis u)
+    (λ v k e. run-below (links_of axis p (table root)) u.number v.number (ap (list_any (λ k. nat_eq k v.number)) (runs-of root axis p u here) ∙ k e))
     (any-itself (p u) (axis_of axis u))
 
 -- A list that is narrowed by numbers.
@@ -178,9 +149,6 @@ trimmed_links t axis p rs =
     rs
 
 -- The pairs of two lists, by ancestor, are the links of their nodes.
-abbrev pub under_item : Axis → List Item → Item → List Link
-under_item axis d x = map (λ y. link x.node y.node) (filter (λ y. is_related axis x.label y.label) d)
-
 join-test : (a f g : Bool) → f ≡ true → (a && (f && g)) ≡ (g && a)
 join-test true true true e = refl
 join-test true true false e = refl
@@ -194,7 +162,7 @@ no-test false f g e = refl
 no-test true true g e = absurd (let h : ◌≡◌ {A = Bool} true false = e in cc)
 
 joined-row : (axis : Axis) (f g : Numbered → Bool) (rs : List Row) (r : Row) (b : Bool) → f (numbered_of r) ≡ b
-    → cond b (under_item axis (listed_by g rs) (item_of r)) [] ≡ map (λ (s : Row). link r.number s.number) (linked_rows axis (λ u v. f u && g v) rs r)
+    → cond b (links_under axis (listed_by g rs) (item_of r)) [] ≡ map (λ (s : Row). link r.number s.number) (linked_rows axis (λ u v. f u && g v) rs r)
 joined-row axis f g rs r true e =
     ap (map (λ (y : Item). link r.number y.node)) (filter-map (λ (y : Item). is_related axis r.label y.label) item_of (filter (λ s. g (numbered_of s)) rs))
     ∙ map-map (λ (y : Item). link r.number y.node) item_of (filter (is_on axis r) (filter (λ s. g (numbered_of s)) rs))
@@ -207,14 +175,14 @@ joined-row axis f g rs r false e =
     ∙ filter_agree (λ (s : Row). false) (λ (s : Row). is_on axis r s && (f (numbered_of r) && g (numbered_of s)))
     (λ s. sym (no-test (is_on axis r s) (f (numbered_of r)) (g (numbered_of s)) e)) rs)
 
-pub joined-links : (axis : Axis) (f g : Numbered → Bool) (rs : List Row) → flat_map (under_item axis (listed_by g rs)) (listed_by f rs) ≡ links_of axis (λ u v. f u && g v) rs
+pub joined-links : (axis : Axis) (f g : Numbered → Bool) (rs : List Row) → links_between axis (listed_by f rs) (listed_by g rs) ≡ links_of axis (λ u v. f u && g v) rs
 joined-links axis f g rs =
     let d = listed_by g rs in
     let whole = λ (r : Row). map (λ (s : Row). link r.number s.number) (linked_rows axis (λ u v. f u && g v) rs r) in
-    flat_map-map (under_item axis d) item_of (filter (λ r. f (numbered_of r)) rs)
-    ∙ kept_same (λ (r : Row). under_item axis d (item_of r)) whole (λ r. f (numbered_of r)) rs (each rs)
+    flat_map-map (links_under axis d) item_of (filter (λ r. f (numbered_of r)) rs)
+    ∙ kept_same (λ (r : Row). links_under axis d (item_of r)) whole (λ r. f (numbered_of r)) rs (each rs)
   where
-    each : (xs : List Row) → AllByRecursion (λ (r : Row). cond (f (numbered_of r)) (under_item axis (listed_by g rs) (item_of r)) [] ≡ map (λ (s : Row). link r.number s.number) (linked_rows axis (λ u v. f u && g v) rs r)) xs
+    each : (xs : List Row) → AllByRecursion (λ (r : Row). cond (f (numbered_of r)) (links_under axis (listed_by g rs) (item_of r)) [] ≡ map (λ (s : Row). link r.number s.number) (linked_rows axis (λ u v. f u && g v) rs r)) xs
     each [] = tt
     each (x ∷ xs) = (joined-row axis f g rs x (f (numbered_of x)) refl, each xs)
 
@@ -222,7 +190,7 @@ joined-links axis f g rs =
 -- one what has what the mark asks for.
 abbrev pub lists_then : ℕ → Branch → List Link → (ℕ → Numbered → Bool) → ℕ → Numbered → Bool
 lists_then e s links lists x v =
-    cond (nat_eq x (e + 1)) (lists x v && has_below links v.number) (cond (nat_eq x s.up) (lists x v && gives s.mark (has_above links v.number)) (lists x v))
+    cond (nat_eq x (e + 1)) (lists x v && leads_to links v.number) (cond (nat_eq x s.up) (lists x v && is_met s.mark (leads_from links v.number)) (lists x v))
 
 abbrev pub pairs_then : ℕ → Branch → (ℕ → Numbered → Bool) → (ℕ → Numbered → Numbered → Bool) → ℕ → Numbered → Numbered → Bool
 pairs_then e s lists pairs f u v = cond (nat_eq f e) (lists s.up u && lists (e + 1) v) (pairs f u v)
@@ -239,23 +207,23 @@ narrows root es e lists links before is =
     let s = branch_at es e in
     let p = λ (u v : Numbered). lists s.up u && lists (e + 1) v in
     record {
-      less = λ x v here kept. then-less (nat_eq x (e + 1)) (nat_eq x s.up) (lists x v) (has_below links v.number) (gives s.mark (has_above links v.number)) kept;
+      less = λ x v here kept. then-less (nat_eq x (e + 1)) (nat_eq x s.up) (lists x v) (leads_to links v.number) (is_met s.mark (leads_from links v.number)) kept;
       others = λ x low up v here listed.
-          cond-false (nat_eq x (e + 1)) (lists x v && has_below links v.number) (cond (nat_eq x s.up) (lists x v && gives s.mark (has_above links v.number)) (lists x v)) (ne_eqb x (e + 1) low)
-          ∙ cond-false (nat_eq x s.up) (lists x v && gives s.mark (has_above links v.number)) (lists x v) (ne_eqb x s.up up) ∙ listed;
+          cond-false (nat_eq x (e + 1)) (lists x v && leads_to links v.number) (cond (nat_eq x s.up) (lists x v && is_met s.mark (leads_from links v.number)) (lists x v)) (ne_eqb x (e + 1) low)
+          ∙ cond-false (nat_eq x s.up) (lists x v && is_met s.mark (leads_from links v.number)) (lists x v) (ne_eqb x s.up up) ∙ listed;
       lower = λ u here listed.
-          all-weaker (λ v. p u v ≡ true → has_below (links_of s.axis p (table root)) v.number ≡ true) (λ v. lists (e + 1) v ≡ true → lists_then e s links lists (e + 1) v ≡ true) (axis_of s.axis u)
+          all-weaker (λ v. p u v ≡ true → leads_to (links_of s.axis p (table root)) v.number ≡ true) (λ v. lists (e + 1) v ≡ true → lists_then e s links lists (e + 1) v ≡ true) (axis_of s.axis u)
           (λ v k low.
-          cond-true (nat_eq (e + 1) (e + 1)) (lists (e + 1) v && has_below links v.number) (cond (nat_eq (e + 1) s.up) (lists (e + 1) v && gives s.mark (has_above links v.number)) (lists (e + 1) v)) (eq-eqb (e + 1) (e + 1) refl)
-          ∙ and_from (lists (e + 1) v) (has_below links v.number) low (ap (λ ls. has_below ls v.number) is ∙ k (and_from (lists s.up u) (lists (e + 1) v) listed low)))
+          cond-true (nat_eq (e + 1) (e + 1)) (lists (e + 1) v && leads_to links v.number) (cond (nat_eq (e + 1) s.up) (lists (e + 1) v && is_met s.mark (leads_from links v.number)) (lists (e + 1) v)) (eq-eqb (e + 1) (e + 1) refl)
+          ∙ and_from (lists (e + 1) v) (leads_to links v.number) low (ap (λ ls. leads_to ls v.number) is ∙ k (and_from (lists s.up u) (lists (e + 1) v) listed low)))
           (below-of root s.axis p u here);
       upper = λ u here listed given.
-          cond-false (nat_eq s.up (e + 1)) (lists s.up u && has_below links u.number) (cond (nat_eq s.up s.up) (lists s.up u && gives s.mark (has_above links u.number)) (lists s.up u)) (ne_eqb s.up (e + 1) (λ g. omega (arith, g, before)))
-          ∙ cond-true (nat_eq s.up s.up) (lists s.up u && gives s.mark (has_above links u.number)) (lists s.up u) (eq-eqb s.up s.up refl)
-          ∙ and_from (lists s.up u) (gives s.mark (has_above links u.number)) listed
-          (gives-more s.mark (any (lists (e + 1)) (axis_of s.axis u)) (has_above links u.number)
+          cond-false (nat_eq s.up (e + 1)) (lists s.up u && leads_to links u.number) (cond (nat_eq s.up s.up) (lists s.up u && is_met s.mark (leads_from links u.number)) (lists s.up u)) (ne_eqb s.up (e + 1) (λ g. omega (arith, g, before)))
+          ∙ cond-true (nat_eq s.up s.up) (lists s.up u && is_met s.mark (leads_from links u.number)) (lists s.up u) (eq-eqb s.up s.up refl)
+          ∙ and_from (lists s.up u) (is_met s.mark (leads_from links u.number)) listed
+          (met-more s.mark (list_any (lists (e + 1)) (axis_of s.axis u)) (leads_from links u.number)
           (λ some.
-          ap (λ ls. has_above ls u.number) is ∙ above-of root s.axis p u here
+          ap (λ ls. leads_from ls u.number) is ∙ above-of root s.axis p u here
           ∙ any-more (lists (e + 1)) (p u) (axis_of s.axis u) (each u listed (axis_of s.axis u)) some)
           given);
     }

@@ -5,7 +5,7 @@ use Rattle.std.specs.List.{AllByRecursion, list_any}
 use Rattle.std.proofs.lemmas.Bool.{cond-true, cond-false, false≢true, or_cases, or_parts, or_left, or_right, eqb-true, eq-eqb, ne_eqb, not_from_true, not_from_false}
 use Rattle.tb_tree.specs.Plain.{Plain}
 use Rattle.tb_tree.specs.Numbers.{Numbered}
-use Rattle.tb_tree.proofs.lists.Alls.{all-append, all-both, all-weaker}
+use Rattle.tb_tree.proofs.lists.Alls.{all-append, all-both, all-weaker, all-map, all-flat_map, all-passing}
 use Rattle.tb_span.specs.declared.item.Axis.{Axis}
 use Rattle.tb_pattern.specs.Plain.{PlainPattern, matching, PlainEdges, no_edges, edge, nodes_in}
 use Rattle.tb_pattern.specs.Witness.{Witness, witness, Offers, no_offers, offer, Witnesses, no_witnesses, then_witness, together, each_alone, offered}
@@ -14,22 +14,6 @@ use Rattle.tb_pattern.specs.declared.pattern.Mark.TheVariants.{One, Optional, So
 use Rattle.tb_twig.specs.Branches.{Branch, branches, axis_of}
 use Rattle.tb_twig.specs.Offered.{offered_for, offered_by_all, offered_by, different}
 use Rattle.tb_twig.proofs.BuiltLaws.{built, AllFrom, parts-of, Closed}
-
-all-flat_map : {X Y : Type 0} (P : Y → Type 0) (f : X → List Y) (xs : List X) → AllByRecursion (λ x. AllByRecursion P (f x)) xs → AllByRecursion P (flat_map f xs)
-all-flat_map P f [] all = tt
-all-flat_map P f (x ∷ xs) all = all-append P (f x) (flat_map f xs) all.0 (all-flat_map P f xs all.1)
-
-all-map : {X Y : Type 0} (P : Y → Type 0) (f : X → Y) (xs : List X) → AllByRecursion (λ x. P (f x)) xs → AllByRecursion P (map f xs)
-all-map P f [] all = tt
-all-map P f (x ∷ xs) all = (all.0, all-map P f xs all.1)
-
-all-passing : {X : Type 0} (P : X → Type 0) (p : X → Bool) (xs : List X) → AllByRecursion (λ x. p x ≡ true → P x) xs → AllByRecursion P (filter p xs)
-all-passing P p [] all = tt
-all-passing P p (x ∷ xs) all = at (p x) refl (all-passing P p xs all.1)
-  where
-    at : (b : Bool) → p x ≡ b → AllByRecursion P (filter p xs) → AllByRecursion P (cond b (x ∷ filter p xs) (filter p xs))
-    at true e rest = (all.0 e, rest)
-    at false e rest = rest
 
 module _ (Q : ℕ → Type 0) (t : ℕ) where
   -- what witnesses offer is what each of them offers

@@ -14,7 +14,8 @@ use Rattle.tb_tree.specs.Numbers.{Numbered}
 use Rattle.tb_label.specs.Rows.{Row, table, numbered_of, is_on}
 use Rattle.tb_twig.specs.Links.{IsRising, leading_from, starts_below, starts_from}
 use Rattle.tb_twig.specs.declared.link.Link.{Link}
-use Rattle.tb_twig.proofs.LinkLaws.{link, links_of}
+use Rattle.tb_twig.specs.Narrowed.{link}
+use Rattle.tb_twig.proofs.LinkLaws.{links_of}
 use Rattle.tb_twig.proofs.TableLaws.{CountOn, table-count}
 
 abbrev NotBefore : ℕ → Link → Type 0

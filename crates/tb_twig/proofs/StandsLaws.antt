@@ -2,7 +2,7 @@
 -- them. A join of one more edge keeps that, however it narrows the lists of its two nodes, as long as no node
 -- is lost that matters; when all edges are done the rows that are built from the pairs are the naive ones.
 use Rattle.std.proofs.Common.{◌≡◌, ℕ, zero, suc, ◌+◌, ◌<◌, ◌≤◌, Bool, true, false, cond, ◌&&◌, nat_eq, not, ◌⊎◌, inl, inr, List, [], ◌∷◌, ◌++◌, length, get_or, map, filter, flat_map, refl, sym, ap, ap₂, ◌∙◌, subst, arith, length-append}
-use Rattle.std.specs.List.{AllByRecursion}
+use Rattle.std.specs.List.{AllByRecursion, list_any}
 use Rattle.std.proofs.lemmas.Bool.{cond-true, cond-false, false≢true, and_parts, and_from, cases_Bool, cases_eq, true_from_ne_false, false_from_ne_true, not_from_false, eq-eqb, ne_eqb, eqb-true}
 use Rattle.tb_tree.specs.Plain.{Plain, kids_of}
 use Rattle.tb_tree.specs.Numbers.{Numbered}
@@ -13,7 +13,8 @@ use Rattle.tb_pattern.specs.Plain.{PlainPattern, matching, PlainEdges, no_edges,
 use Rattle.tb_pattern.specs.Witness.{witness, Witnesses, offer, offered, witnesses_at, choices}
 use Rattle.tb_twig.specs.Branches.{Branch, branches, branches_of, branch_at, no_branch, fits, axis_of}
 use Rattle.tb_twig.proofs.NumberedLaws.{later}
-use Rattle.tb_twig.proofs.HasLaws.{has, any, gives, has-map, has-none, has-flat_map, has-product, has-offered, gives-more, any-more}
+use Rattle.tb_twig.specs.Narrowed.{is_met}
+use Rattle.tb_twig.proofs.HasLaws.{has, has-map, has-none, has-flat_map, has-product, has-offered, met-more, any-more}
 use Rattle.tb_twig.proofs.BuiltLaws.{built, AllFrom, from-append, from-all, at-place, length-branches, parts-of, Closed, Sound, Complete, has-witnesses, has-built, built-is}
 
 -- the document node has a row, or the node has a witness below that pattern node
@@ -23,7 +24,7 @@ lives es (suc e) v = has (witnesses_at (branch_at es e).to v)
 
 -- An edge of a living node has what its mark asks for.
 abbrev pub IsLinked : (ℕ → Numbered → Bool) → ℕ → Branch → Type 0
-IsLinked alive f s = (v : Numbered) → alive s.up v ≡ true → gives s.mark (any (λ w. has (witnesses_at s.to w)) (axis_of s.axis v)) ≡ true
+IsLinked alive f s = (v : Numbered) → alive s.up v ≡ true → is_met s.mark (list_any (λ w. has (witnesses_at s.to w)) (axis_of s.axis v)) ≡ true
 
 -- the offers of an edge at a node
 abbrev offers_at : Mark → PlainPattern → Axis → Numbered → List Witnesses
@@ -51,7 +52,7 @@ linked-from alive n e (edge axis mark (matching test conds whole below) others) 
     let to = matching test conds whole below in
     let p = parts-of (Lives alive) n e axis mark to below others all in
     (λ v living.
-    ap (gives mark) (sym (has-flat_map (witnesses_at to) (axis_of axis v))) ∙ sym (has-offered mark (flat_map (witnesses_at to) (axis_of axis v)))
+    ap (is_met mark) (sym (has-flat_map (witnesses_at to) (axis_of axis v))) ∙ sym (has-offered mark (flat_map (witnesses_at to) (axis_of axis v)))
     ∙ (choices-parts axis mark to others v (top v living)).1,
     from-append (IsLinked alive) (e + 1) (e + 1 + nodes_in below) (branches (e + 1) (e + 1) below) (branches n (e + 1 + nodes_in below) others) (omega (arith, length-branches (e + 1) (e + 1) below))
     (linked-from alive (e + 1) (e + 1) below
@@ -95,7 +96,7 @@ module _ (In : Numbered → Type 0) (closed : Closed In) (es : PlainEdges) (top 
     pub less : (x : ℕ) (v : Numbered) → In v → lists' x v ≡ true → lists x v ≡ true
     pub others : (x : ℕ) → (x ≡ e + 1 → ⊥) → (x ≡ (branch_at es e).up → ⊥) → (v : Numbered) → In v → lists x v ≡ true → lists' x v ≡ true
     pub lower : (u : Numbered) → In u → lists (branch_at es e).up u ≡ true → AllByRecursion (λ v. lists (e + 1) v ≡ true → lists' (e + 1) v ≡ true) (axis_of (branch_at es e).axis u)
-    pub upper : (u : Numbered) → In u → lists (branch_at es e).up u ≡ true → gives (branch_at es e).mark (any (lists (e + 1)) (axis_of (branch_at es e).axis u)) ≡ true → lists' (branch_at es e).up u ≡ true
+    pub upper : (u : Numbered) → In u → lists (branch_at es e).up u ≡ true → is_met (branch_at es e).mark (list_any (lists (e + 1)) (axis_of (branch_at es e).axis u)) ≡ true → lists' (branch_at es e).up u ≡ true
 
   -- the pairs of edge e are those of its two lists, and the others as they were
   pub record Joins (e : ℕ) (lists : ℕ → Numbered → Bool) (pairs pairs' : ℕ → Numbered → Numbered → Bool) : Type 0 where
@@ -129,10 +130,10 @@ module _ (In : Numbered → Type 0) (closed : Closed In) (es : PlainEdges) (top 
   -- What is linked to a living node of a list is in the list below.
   linked-lists : (Done : ℕ → Type 0) (lists : ℕ → Numbered → Bool) (pairs : ℕ → Numbered → Numbered → Bool) → Stands Done lists pairs
       → (e : ℕ) → e < length (branches_of es) → (v : Numbered) → In v → lists (branch_at es e).up v ≡ true → lives es (branch_at es e).up v ≡ true
-      → gives (branch_at es e).mark (any (lists (e + 1)) (axis_of (branch_at es e).axis v)) ≡ true
+      → is_met (branch_at es e).mark (list_any (lists (e + 1)) (axis_of (branch_at es e).axis v)) ≡ true
   linked-lists Done lists pairs st e less v here listed living =
       let s = branch_at es e in
-      gives-more s.mark (any (λ w. has (witnesses_at s.to w)) (axis_of s.axis v)) (any (lists (e + 1)) (axis_of s.axis v))
+      met-more s.mark (list_any (λ w. has (witnesses_at s.to w)) (axis_of s.axis v)) (list_any (lists (e + 1)) (axis_of s.axis v))
       (any-more (λ w. has (witnesses_at s.to w)) (lists (e + 1)) (axis_of s.axis v) (st.reached e less v here listed))
       (linked es e less v living)
 
@@ -200,10 +201,10 @@ module _ (In : Numbered → Type 0) (closed : Closed In) (es : PlainEdges) (top 
   -- A living node of a list has what the mark of an edge that is done asks for among its pairs.
   pub has_pairs : (Done : ℕ → Type 0) (lists : ℕ → Numbered → Bool) (pairs : ℕ → Numbered → Numbered → Bool) → Stands Done lists pairs
       → (e : ℕ) → e < length (branches_of es) → Done e → (v : Numbered) → In v → lists (branch_at es e).up v ≡ true → lives es (branch_at es e).up v ≡ true
-      → gives (branch_at es e).mark (any (pairs e v) (axis_of (branch_at es e).axis v)) ≡ true
+      → is_met (branch_at es e).mark (list_any (pairs e v) (axis_of (branch_at es e).axis v)) ≡ true
   has_pairs Done lists pairs st e less done v here listed living =
       let s = branch_at es e in
-      gives-more s.mark (any (lists (e + 1)) (axis_of s.axis v)) (any (pairs e v) (axis_of s.axis v))
+      met-more s.mark (list_any (lists (e + 1)) (axis_of s.axis v)) (list_any (pairs e v) (axis_of s.axis v))
       (any-more (lists (e + 1)) (pairs e v) (axis_of s.axis v) (st.found e less done v here listed))
       (linked-lists Done lists pairs st e less v here listed living)
 

@@ -4,7 +4,7 @@ use Rattle.std.specs.List.{AllByRecursion}
 use Rattle.std.proofs.lemmas.Bool.{cond-true, cond-false, eq-eqb, ne_eqb}
 use Rattle.tb_tree.specs.Plain.{Plain, elem, attr, text, Plains, no_kids, kid, kids_of, one}
 use Rattle.tb_tree.specs.Numbers.{counts, Numbered}
-use Rattle.tb_tree.proofs.lists.Alls.{all-weaker}
+use Rattle.tb_tree.proofs.lists.Alls.{all-weaker, all-kept}
 use Rattle.tb_span.specs.declared.item.Axis.{Axis}
 use Rattle.tb_span.specs.declared.item.Axis.TheVariants.{Child, Descendant}
 use Rattle.tb_label.specs.Rows.{Row, rows, rows_of, document_row, table, numbered_of, is_on, numbered_on}
@@ -30,15 +30,6 @@ member-all P (x ∷ xs) r all (inr later) = member-all P xs r all.1 later
 all-members : (rs : List Row) → AllByRecursion (Member rs) rs
 all-members [] = tt
 all-members (x ∷ xs) = (inl refl, all-weaker (Member xs) (Member (x ∷ xs)) xs (λ r m. inr m) (all-members xs))
-
-one_kept : {X Y : Type 0} (Q : Y → Type 0) (f : X → Y) (x : X) (kept : List X) (b : Bool) → Q (f x) → AllByRecursion Q (map f kept) → AllByRecursion Q (map f (cond b (x ∷ kept) kept))
-one_kept Q f x kept true first others = (first, others)
-one_kept Q f x kept false first others = others
-
--- what holds of all elements holds of those that a filter keeps
-pub all-kept : {X Y : Type 0} (P : X → Type 0) (Q : Y → Type 0) (f : X → Y) (p : X → Bool) (xs : List X) → ((x : X) → P x → Q (f x)) → AllByRecursion P xs → AllByRecursion Q (map f (filter p xs))
-all-kept P Q f p [] step all = tt
-all-kept P Q f p (x ∷ xs) step all = one_kept Q f x (filter p xs) (p x) (step x all.0) (all-kept P Q f p xs step all.1)
 
 axis-numbered : (axis : Axis) (u : Numbered) → numbered_on axis (u.number + 1) (kids_of u.node) ≡ axis_of axis u
 axis-numbered Child u = refl

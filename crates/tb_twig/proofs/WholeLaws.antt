@@ -6,6 +6,8 @@ use Rattle.std.proofs.lemmas.List.Folds.{flat_map-map}
 use Rattle.tb_tree.specs.Plain.{Plain, elem, attr, text, Plains, no_kids, kid, kids_of, one}
 use Rattle.tb_tree.specs.Numbers.{counts, Numbered}
 use Rattle.tb_tree.specs.Nodes.{nodes_of, node_at}
+use Rattle.std.proofs.lemmas.List.Elements.{All-from_recursion, All-filter}
+use Rattle.tb_tree.proofs.lists.Maps.{flat_map_same}
 use Rattle.tb_tree.proofs.lists.Alls.{all-both, all-weaker}
 use Rattle.tb_span.specs.declared.item.Axis.{Axis}
 use Rattle.tb_label.specs.Rows.{Row, rows, rows_of, document_row, table, numbered_of}
@@ -25,12 +27,7 @@ abbrev pub Runs : (Numbered → Type 0) → (ℕ → Numbered → Numbered → B
 Runs In pairs links e s = (u : Numbered) → In u → run (links e) u.number ≡ map (λ v. v.number) (filter (pairs e u) (axis_of s.axis u))
 
 flat_map-kept : {X Y : Type 0} (f g : X → List Y) (p : X → Bool) (xs : List X) → AllByRecursion (λ x. f x ≡ g x) xs → flat_map f (filter p xs) ≡ flat_map g (filter p xs)
-flat_map-kept f g p [] same = refl
-flat_map-kept f g p (x ∷ xs) same = at (p x) (flat_map-kept f g p xs same.1)
-  where
-    at : (b : Bool) → flat_map f (filter p xs) ≡ flat_map g (filter p xs) → flat_map f (cond b (x ∷ filter p xs) (filter p xs)) ≡ flat_map g (cond b (x ∷ filter p xs) (filter p xs))
-    at true e = ap₂ (λ a b. a ++ b) same.0 e
-    at false e = e
+flat_map-kept f g p xs same = flat_map_same f g (filter p xs) (All-filter p (λ x. f x ≡ g x) xs (All-from_recursion (λ x. f x ≡ g x) xs same))
 
 module _ (In : Numbered → Type 0) (closed : Closed In) (look : ℕ → Plain) (looks : (v : Numbered) → In v → 1 ≤ v.number → look v.number ≡ v.node) (pairs : ℕ → Numbered → Numbered → Bool) (links : ℕ → List Link) where
   pub by-numbers : (n e : ℕ) (es : PlainEdges) → AllFrom (Runs In pairs links) e (branches n e es) → (u : Numbered) → In u → built_by look links e es u.number ≡ built pairs e es u

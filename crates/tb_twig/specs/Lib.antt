@@ -3,5 +3,6 @@
 pub mod Branches
 pub mod Links
 pub mod Grown
+pub mod Narrowed
 pub mod Seen
 pub mod Offered

@@ -8,7 +8,7 @@ use Rattle.tb_twig.specs.Branches.{below_of}
 use Rattle.tb_twig.specs.Links.{links_at, leading_from, run, built_by}
 use Rattle.tb_twig.specs.Seen.{seen}
 use Rattle.tb_twig.specs.declared.link.Link.{Link}
-use Rattle.tb_twig.proofs.LinkLaws.{link}
+use Rattle.tb_twig.specs.Narrowed.{link}
 use Rattle.tb_twig.proofs.RowsLaws.{drop-edge, turn-count, turn-room, rows-init, rows-turn, rows-end, witnesses-turn, mark-edge, below-edge}
 use Rattle.tb_twig.proofs.rows.+rows.Goals as goal
 
