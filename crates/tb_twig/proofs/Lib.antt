@@ -8,3 +8,4 @@ pub mod WholeLaws
 pub mod OfferedLaws
 pub mod RunLaws
 pub mod RowsLaws
+pub mod LayoutLaws

@@ -27,7 +27,7 @@ member-all P [] r all none = absurd none
 member-all P (x ∷ xs) r all (inl is) = subst P (sym is) all.0
 member-all P (x ∷ xs) r all (inr later) = member-all P xs r all.1 later
 
-all-members : (rs : List Row) → AllByRecursion (Member rs) rs
+pub all-members : (rs : List Row) → AllByRecursion (Member rs) rs
 all-members [] = tt
 all-members (x ∷ xs) = (inl refl, all-weaker (Member xs) (Member (x ∷ xs)) xs (λ r m. inr m) (all-members xs))
 

@@ -22,6 +22,9 @@ pub record Branch : Type 0 where
   pub mark : Mark
   pub to : PlainPattern
 
+abbrev pub branch_to : ℕ → PlainEdge → Branch
+branch_to n e = record { up = n; axis = e.axis; mark = e.mark; to = e.to }
+
 -- the edges that leave node n and all below them, in written order; the first has the number e
 abbrev pub branches : ℕ → ℕ → PlainEdges → List Branch
 branches n e no_edges = []

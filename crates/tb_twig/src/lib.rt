@@ -1,8 +1,12 @@
 //! Twig matching: the witnesses of a pattern, by one structural join an edge, in any order of the edges.
 #![tactic(auto)]
 
+mod branch;
+mod condition;
 mod copies;
+mod layout;
 mod link;
+mod nodes;
 mod offers;
 mod rows;
 mod run;
