@@ -2,7 +2,7 @@
 use Rattle.std.proofs.Common.{◌≡◌, ℕ, suc, ◌+◌, ◌-◌, ◌<◌, ◌≤◌, Bool, true, false, cond, ◌&&◌, not, nat_eq, List, [], ◌∷◌, ◌++◌, All, length, map, filter, drop, get_or, refl, sym, ap, ap₂, ◌∙◌, subst, arith, rules, append_assoc, length-append}
 use Rattle.std.specs.List.{AllByRecursion, list_all}
 use Rattle.std.proofs.lemmas.Bool.{cond-true, cond-false, eq-eqb, ne_eqb, and_right}
-use Rattle.std.proofs.lemmas.List.{map-append, length-map, length_push}
+use Rattle.std.proofs.lemmas.List.{map-append, length-map}
 use Rattle.std.proofs.lemmas.List.Elements.{All-from_recursion, filter_agree}
 use Rattle.tb_tree.specs.Plain.{Plain, one}
 use Rattle.tb_tree.specs.Numbers.{Numbered, count}
@@ -27,7 +27,7 @@ use Rattle.tb_pattern.specs.declared.cond.Literal.TheVariants.{Number, Text}
 use Rattle.tb_pattern.specs.declared.pattern.Mark.{Mark}
 use Rattle.tb_pattern.specs.declared.pattern.Edge.{Edge, out-Edge, the_lemmas}
 use Rattle.tb_pattern.specs.declared.pattern.PNode.{PNode, out-PNode}
-use Rattle.tb_twig.specs.Branches.{Branch, branch_to, branches, inside, below_of, test_of, fits}
+use Rattle.tb_twig.specs.Branches.{Branch, branch_to, branches, branches_in, inside, below_of, test_of, fits}
 use Rattle.tb_twig.specs.Lists.{branch_of, conds_of, holding, first_list, comparand_of, prepared, all_stand}
 use Rattle.tb_twig.specs.declared.branch.Branch as code
 use Rattle.tb_twig.specs.declared.condition.Condition.{Condition}
@@ -96,40 +96,38 @@ branches-first : (up n : ℕ) (axis : Axis) (mark : Mark) (to : PlainPattern) (o
     ≡ record { up = up; axis = axis; mark = mark; to = to } ∷ (branches (n + 1) (n + 1) (inside to) ++ branches up (n + 1 + nodes_in (inside to)) others)
 branches-first up n axis mark (matching test conds whole below) others = refl
 
-pub lay-turn : {X : Type 0} (f : Branch → X) (up n lower first next : ℕ) (e : PlainEdge) (others : PlainEdges) (before mid after : List X)
-    → mid ≡ before ++ f (branch_to up e) ∷ [] → after ≡ mid ++ map f (branches lower first (below_of e))
-    → lower ≡ n + 1 → first ≡ n + 1 → next ≡ n + 1 + nodes_in (below_of e)
+-- an edge and all below it, and then the others
+lay-turn : {X : Type 0} (f : Branch → X) (up n next : ℕ) (e : PlainEdge) (others : PlainEdges) (before after : List X)
+    → after ≡ before ++ map f (branches_in up n e) → next ≡ n + 1 + nodes_in (below_of e)
     → after ++ map f (branches up next others) ≡ before ++ map f (branches up n (edge e.axis e.mark e.to others))
-lay-turn f up n lower first next e others before mid after mid-is after-is lower-is first-is next-is =
-    let this = f (branch_to up e) in
-    let inner = map f (branches (n + 1) (n + 1) (below_of e)) in
-    let rest = map f (branches up (n + 1 + nodes_in (below_of e)) others) in
-    ap₂ (λ xs k. xs ++ map f (branches up k others))
-    (after-is ∙ ap₂ (λ xs ys. xs ++ ys) mid-is (ap₂ (λ a b. map f (branches a b (below_of e))) lower-is first-is)) next-is
-    ∙ append_assoc (before ++ this ∷ []) inner rest
-    ∙ append_assoc before (this ∷ []) (inner ++ rest)
-    ∙ ap (λ xs. before ++ (this ∷ xs)) (sym (map-append f (branches (n + 1) (n + 1) (below_of e)) (branches up (n + 1 + nodes_in (below_of e)) others)))
+lay-turn f up n next e others before after after-is next-is =
+    let rest = branches up (n + 1 + nodes_in (below_of e)) others in
+    ap₂ (λ xs k. xs ++ map f (branches up k others)) after-is next-is
+    ∙ append_assoc before (map f (branches_in up n e)) (map f rest)
+    ∙ ap (λ xs. before ++ xs) (sym (map-append f (branches_in up n e) rest))
     ∙ ap (λ bs. before ++ map f bs) (sym (branches-first up n e.axis e.mark e.to others))
 
--- the loop over the edges
-pub lay-next : {X : Type 0} (f : Branch → X) (up n lower first next i : ℕ) (es : List Edge) (e : Edge) (before mid after whole : List X)
-    → drop i es ≡ e ∷ drop (i + 1) es → mid ≡ before ++ f (branch_to up (edge_of e)) ∷ [] → after ≡ mid ++ map f (branches lower first (below_of (edge_of e)))
-    → lower ≡ n + 1 → first ≡ n + 1 → next ≡ n + 1 + nodes_in (below_of (edge_of e)) → before ++ map f (branches up n (edges_of (drop i es))) ≡ whole
-    → after ++ map f (branches up next (edges_of (drop (i + 1) es))) ≡ whole
-lay-next f up n lower first next i es e before mid after whole here mid-is after-is lower-is first-is next-is so_far =
-    lay-turn f up n lower first next (edge_of e) (edges_of (drop (i + 1) es)) before mid after mid-is after-is lower-is first-is next-is
+pub lay-next : {X : Type 0} (f : Branch → X) (up n next i : ℕ) (es : List Edge) (e : Edge) (before after whole : List X)
+    → drop i es ≡ e ∷ drop (i + 1) es → after ≡ before ++ map f (branches_in up n (edge_of e)) → next ≡ n + 1 + nodes_in (below_of (edge_of e))
+    → before ++ map f (branches up n (edges_of (drop i es))) ≡ whole → after ++ map f (branches up next (edges_of (drop (i + 1) es))) ≡ whole
+lay-next f up n next i es e before after whole here after-is next-is so_far =
+    lay-turn f up n next (edge_of e) (edges_of (drop (i + 1) es)) before after after-is next-is
     ∙ ap (λ xs. before ++ map f (branches up n (edges_of xs))) (sym here) ∙ so_far
 
-pub laid-length : (before mid after : List code.Branch) (b : code.Branch) (lower first : ℕ) (below : PlainEdges) → mid ≡ before ++ b ∷ [] → after ≡ mid ++ map branch_of (branches lower first below)
-    → (length mid ≡ length before + 1) × (length after ≡ length before + 1 + nodes_in below)
-laid-length before mid after b lower first below mid-is after-is =
-    let one : length mid ≡ length before + 1 = ap length mid-is ∙ length_push before b in
-    (one,
+-- an edge, and then those below it
+pub lay-inner : {X : Type 0} (f : Branch → X) (up n lower first : ℕ) (e : PlainEdge) (before mid after : List X)
+    → mid ≡ before ++ f (branch_to up e) ∷ [] → after ≡ mid ++ map f (branches lower first (below_of e)) → lower ≡ n + 1 → first ≡ n + 1
+    → after ≡ before ++ map f (branches_in up n e)
+lay-inner f up n lower first e before mid after mid-is after-is lower-is first-is =
+    after-is ∙ ap₂ (λ xs ys. xs ++ ys) mid-is (ap₂ (λ a b. map f (branches a b (below_of e))) lower-is first-is)
+    ∙ append_assoc before (f (branch_to up e) ∷ []) (map f (branches (n + 1) (n + 1) (below_of e)))
+
+pub laid-length : (before after : List code.Branch) (up n : ℕ) (e : PlainEdge) → after ≡ before ++ map branch_of (branches_in up n e) → length after ≡ length before + 1 + nodes_in (below_of e)
+laid-length before after up n e after-is =
     omega (
       arith,
-      one,
       ap length after-is,
-      length-append mid (map branch_of (branches lower first below)),
-      length-map (branches lower first below) branch_of,
-      length-branches lower first below,
-    ))
+      length-append before (map branch_of (branches_in up n e)),
+      length-map (branches (n + 1) (n + 1) (below_of e)) branch_of,
+      length-branches (n + 1) (n + 1) (below_of e),
+    )

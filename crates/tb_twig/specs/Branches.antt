@@ -25,12 +25,23 @@ pub record Branch : Type 0 where
 abbrev pub branch_to : ℕ → PlainEdge → Branch
 branch_to n e = record { up = n; axis = e.axis; mark = e.mark; to = e.to }
 
+-- the edges below an edge
+abbrev pub inside : PlainPattern → PlainEdges
+inside (matching test conds whole edges) = edges
+
+abbrev pub below_of : PlainEdge → PlainEdges
+below_of e = inside e.to
+
 -- the edges that leave node n and all below them, in written order; the first has the number e
 abbrev pub branches : ℕ → ℕ → PlainEdges → List Branch
 branches n e no_edges = []
 branches n e (edge axis mark (matching test conds whole below) others) =
     record { up = n; axis = axis; mark = mark; to = matching test conds whole below }
     ∷ (branches (e + 1) (e + 1) below ++ branches n (e + 1 + nodes_in below) others)
+
+-- an edge that leaves node n and has the number e, and all edges below it
+abbrev pub branches_in : ℕ → ℕ → PlainEdge → List Branch
+branches_in n e it = branch_to n it ∷ branches (e + 1) (e + 1) (below_of it)
 
 -- what `branch_at` reads past the last edge
 abbrev pub no_branch : Branch
@@ -42,13 +53,6 @@ branches_of edges = branches 0 0 edges
 
 abbrev pub branch_at : PlainEdges → ℕ → Branch
 branch_at edges e = slice_index_or (branches_of edges) e no_branch
-
--- the edges below an edge
-abbrev pub inside : PlainPattern → PlainEdges
-inside (matching test conds whole edges) = edges
-
-abbrev pub below_of : PlainEdge → PlainEdges
-below_of e = inside e.to
 
 -- the test of a pattern node
 abbrev pub test_of : PlainPattern → Test

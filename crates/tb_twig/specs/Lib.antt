@@ -5,5 +5,6 @@ pub mod Lists
 pub mod Links
 pub mod Grown
 pub mod Narrowed
+pub mod Hits
 pub mod Seen
 pub mod Offered

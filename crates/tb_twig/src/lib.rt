@@ -4,6 +4,7 @@
 mod branch;
 mod condition;
 mod copies;
+mod hits;
 mod layout;
 mod link;
 mod nodes;

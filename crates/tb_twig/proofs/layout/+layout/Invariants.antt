@@ -4,11 +4,11 @@ use Rattle.tb_pattern.specs.Plain.{nodes_in}
 use Rattle.tb_pattern.specs.View.{edges_of}
 use Rattle.tb_twig.specs.Branches.{branches}
 use Rattle.tb_twig.specs.Lists.{items_in, branch_of, first_list}
-use Rattle.tb_twig.proofs.layout.+lay_out.Given as goal
+use Rattle.tb_twig.proofs.layout.+layout.Given as goal
 
 -- the edges and lists so far, with those of the edges that are left
-abbrev pub invariant-edges : goal.invariant-edges
-invariant-edges l = record {
+abbrev pub invariant-lay_out-edges : goal.invariant-lay_out-edges
+invariant-lay_out-edges l = record {
   count : length l.laid.items + nodes_in (edges_of (drop l.edge-index l.edges)) ≡ length l.initial.laid.items + nodes_in (edges_of l.edges);
   laid : l.laid.items ++ map branch_of (branches l.up (length l.laid.items) (edges_of (drop l.edge-index l.edges)))
       ≡ l.initial.laid.items ++ map branch_of (branches l.up (length l.initial.laid.items) (edges_of l.edges));
