@@ -9,3 +9,4 @@ pub mod OfferedLaws
 pub mod RunLaws
 pub mod RowsLaws
 pub mod LayoutLaws
+pub mod HitLaws

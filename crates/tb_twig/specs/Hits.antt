@@ -1,5 +1,7 @@
 -- Which places of a list the pairs of a join have.
 use Rattle.std.specs.Prelude.{◌≡◌, ℕ, ◌<◌, Bool, false, nat_eq, List, length, map, filter, slice_index_or, All, AllPairs}
+use Rattle.std.specs.Prelude.{Option, Some, None}
+use Rattle.std.proofs.Common.{Vec, Global}
 use Rattle.std.specs.List.{list_any}
 use Rattle.tb_span.specs.Seeds.{item_at, places}
 use Rattle.tb_span.specs.declared.item.Item.{Item}
@@ -27,3 +29,8 @@ pub record AreHits (place : Pair → ℕ) (pairs : List Pair) (hits : List Bool)
 -- the items at the places that are hit
 abbrev pub chosen : List Item → List Bool → List Item
 chosen items hits = map (item_at items) (filter (λ j. slice_index_or hits j false) (places (length items)))
+
+-- a list that may have been narrowed
+abbrev pub left_of : List Item → Option (Vec Item Global) → List Item
+left_of items None = items
+left_of items (Some kept) = kept.items

@@ -1,5 +1,5 @@
 -- What the join of an edge finds by numbers of nodes, and what it leaves of its two lists.
-use Rattle.std.specs.Prelude.{ℕ, Bool, true, nat_eq, List, map, filter, flat_map}
+use Rattle.std.specs.Prelude.{ℕ, Bool, true, false, not, nat_eq, List, map, filter, flat_map}
 use Rattle.std.specs.List.{list_any}
 use Rattle.tb_span.specs.Lists.{is_related}
 use Rattle.tb_span.specs.declared.item.Axis.{Axis}
@@ -32,6 +32,10 @@ is_met One some = some
 is_met Optional some = true
 is_met Some some = some
 is_met Any some = true
+
+-- whether it asks for something
+abbrev pub asks : Mark → Bool
+asks mark = not (is_met mark false)
 
 -- The lower list keeps what a link leads to, and the upper one what has what the mark asks for.
 abbrev pub lower_left : List Link → List Item → List Item

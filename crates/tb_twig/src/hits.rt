@@ -68,9 +68,10 @@ pub fn chosen(alloc: Global, items: &[Item], hits: &[bool]) -> Result<Vec<Item>,
 {
     let mut kept = Vec::new(alloc);
     'places: for place in 0..items.len() {
-        if hits[place] {
-            kept.push(*item_at(items, place))?;
+        if !hits[place] {
+            continue;
         }
+        kept.push(*item_at(items, place))?;
     }
     Ok(kept)
 }

@@ -7,6 +7,7 @@ mod copies;
 mod hits;
 mod layout;
 mod link;
+mod narrow;
 mod nodes;
 mod offers;
 mod rows;
