@@ -10,3 +10,4 @@ pub mod RunLaws
 pub mod RowsLaws
 pub mod LayoutLaws
 pub mod HitLaws
+pub mod TrimLaws

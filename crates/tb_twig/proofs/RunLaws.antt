@@ -2,11 +2,12 @@
 use Rattle.std.proofs.Common.{◌≡◌, ℕ, zero, suc, ◌+◌, ◌<◌, ◌≤◌, Bool, true, false, cond, ◌&&◌, nat_eq, ◌⊎◌, inl, inr, List, [], ◌∷◌, ◌++◌, All, length, take, drop, get_or, map, filter, flat_map, refl, sym, ap, ap₂, ◌∙◌, subst, arith, take-append-drop, length-drop}
 use Rattle.std.specs.List.{AllByRecursion, prefix_len}
 use Rattle.std.specs.List.Sorted.{IsPartitionPoint, IsNonDecreasingBy}
-use Rattle.std.proofs.lemmas.Bool.{cond-true, cond-false, cases_eq, eq-eqb, ne_eqb}
+use Rattle.std.proofs.lemmas.Bool.{cond-true, cond-false, cases_eq, cases_lt, eq-eqb, ne_eqb}
 use Rattle.std.proofs.lemmas.List.{get_or-take, get_or-drop, length-take-le}
-use Rattle.std.proofs.lemmas.List.Elements.{filter-append, recursion_from_All}
+use Rattle.std.proofs.lemmas.List.Elements.{filter-append, recursion_from_All, All-from_get_or}
+use Rattle.std.proofs.lemmas.List.Folds.{list_any_at, list_any_none}
 use Rattle.std.proofs.lemmas.List.Sorted.{IsNonDecreasingBy-drop}
-use Rattle.tb_tree.proofs.lists.Alls.{all-append, all-weaker}
+use Rattle.tb_tree.proofs.lists.Alls.{all-append, all-weaker, all-passing}
 use Rattle.tb_tree.proofs.lists.Filters.{filter_none, filter-keep, filter-skip}
 use Rattle.tb_span.specs.declared.item.Axis.{Axis}
 use Rattle.tb_tree.specs.Plain.{Plain}
@@ -14,7 +15,7 @@ use Rattle.tb_tree.specs.Numbers.{Numbered}
 use Rattle.tb_label.specs.Rows.{Row, table, numbered_of, is_on}
 use Rattle.tb_twig.specs.Links.{IsRising, leading_from, starts_below, starts_from}
 use Rattle.tb_twig.specs.declared.link.Link.{Link}
-use Rattle.tb_twig.specs.Narrowed.{link}
+use Rattle.tb_twig.specs.Narrowed.{link, leads_from}
 use Rattle.tb_twig.proofs.LinkLaws.{links_of}
 use Rattle.tb_twig.proofs.TableLaws.{CountOn, table-count}
 
@@ -77,6 +78,35 @@ run-is n ls i point rise within =
     (λ k d less.
     let here : k < i = omega (arith, less, length-take-le i ls within) in
     ap (λ (l : Link). nat_eq l.above n) (get_or-take i ls k d here) ∙ ne_eqb (get_or ls k d).above n (λ g. omega (arith, g, point.0 k d (omega arith) here)))))
+
+-- Whether a link leads from n, by the one at the partition point.
+pub leads-at : (n : ℕ) (ls : List Link) (i : ℕ) (d : Link) → IsPartitionPoint (starts_below n) (starts_from n) ls i → IsRising ls → i < length ls → nat_eq (get_or ls i d).above n ≡ leads_from ls n
+leads-at n ls i d point rise within = at (cases_eq (get_or ls i d).above n)
+  where
+    none : ((get_or ls i d).above ≡ n → ⊥) → (k : ℕ) → k < length ls → (k < i) ⊎ (i ≤ k) → nat_eq (get_or ls k d).above n ≡ false
+    none ne k less (inl before) = ne_eqb (get_or ls k d).above n (λ g. omega (arith, g, point.0 k d (omega arith) before))
+    none ne k less (inr behind) = ne_eqb (get_or ls k d).above n (λ g. omega (arith, g, ne, point.1 i d (omega arith) within, rise i k d behind less))
+    at : ((get_or ls i d).above ≡ n) ⊎ ((get_or ls i d).above ≡ n → ⊥) → nat_eq (get_or ls i d).above n ≡ leads_from ls n
+    at (inl is) = let t : nat_eq (get_or ls i d).above n ≡ true = eq-eqb (get_or ls i d).above n is in t ∙ sym (list_any_at (λ (l : Link). nat_eq l.above n) ls i d within t)
+    at (inr ne) =
+        ne_eqb (get_or ls i d).above n ne
+        ∙ sym (list_any_none (λ (l : Link). nat_eq l.above n) ls (All-from_get_or (λ (l : Link). nat_eq l.above n ≡ false) ls d (λ k less. none ne k less (cases_lt k i))))
+
+pub leads-none : (n : ℕ) (ls : List Link) (i : ℕ) → IsPartitionPoint (starts_below n) (starts_from n) ls i → length ls ≤ i → false ≡ leads_from ls n
+leads-none n ls i point past =
+    sym (list_any_none (λ (l : Link). nat_eq l.above n) ls (λ k d less. ne_eqb (get_or ls k d).above n (λ g. omega (arith, g, point.0 k d (omega arith) (omega (arith, less, past))))))
+
+-- What a filter keeps rises.
+rises-filter : (p : Link → Bool) (ls : List Link) → Rises ls → Rises (filter p ls)
+rises-filter p [] rise = tt
+rises-filter p (l ∷ ls) rise = at (p l) (rises-filter p ls rise.1)
+  where
+    at : (b : Bool) → Rises (filter p ls) → Rises (cond b (l ∷ filter p ls) (filter p ls))
+    at true others = (all-passing (NotBefore l.above) p ls (all-weaker (NotBefore l.above) (λ m. p m ≡ true → NotBefore l.above m) ls (λ m low e. low) rise.0), others)
+    at false others = others
+
+pub rising-filter : (p : Link → Bool) (ls : List Link) → IsRising ls → IsRising (filter p ls)
+rising-filter p ls rise = rising-from (filter p ls) (rises-filter p ls (rises-from ls rise))
 
 -- Links of a document rise.
 rises-append : (xs ys : List Link) → Rises xs → Rises ys → AllByRecursion (λ x. AllByRecursion (NotBefore x.above) ys) xs → Rises (xs ++ ys)

@@ -6,5 +6,6 @@ pub mod Links
 pub mod Grown
 pub mod Narrowed
 pub mod Hits
+pub mod Trimmed
 pub mod Seen
 pub mod Offered

@@ -7,9 +7,12 @@ use Rattle.tb_pattern.specs.Plain.{PlainPattern, matching, PlainEdges, no_edges,
 use Rattle.tb_pattern.specs.Witness.{witness, Offers, no_offers, offer, offered}
 use Rattle.tb_twig.specs.declared.link.Link.{Link}
 
--- the links of edge e
+-- the links of each edge, and of edge e
+abbrev pub lists_in : List (Vec Link Global) → List (List Link)
+lists_in found = map (λ links. links.items) found
+
 abbrev pub links_at : List (Vec Link Global) → ℕ → List Link
-links_at found e = slice_index_or (map (λ links. links.items) found) e []
+links_at found e = slice_index_or (lists_in found) e []
 
 -- in the order of the upper nodes
 abbrev pub IsRising : List Link → Type 0

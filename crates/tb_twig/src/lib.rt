@@ -12,6 +12,7 @@ mod nodes;
 mod offers;
 mod rows;
 mod run;
+mod trim;
 
 pub use link::Link;
 pub use tb_pattern::{Offer, Witness};

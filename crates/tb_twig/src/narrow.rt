@@ -66,7 +66,7 @@ fn narrowed_above(
     Ok(Some(above))
 }
 
-fn asks(mark: Mark) -> bool
+pub fn asks(mark: Mark) -> bool
     ensures { result ≡ asks mark }
 {
     match mark {

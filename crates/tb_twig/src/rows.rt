@@ -12,7 +12,7 @@ ghost use Rattle.tb_twig.specs.Seen.{seen, row_seen};
 
 use crate::Link;
 use crate::offers::{offered, product};
-use crate::run::leading_from;
+use crate::run::{leading_from, links_of};
 use std::alloc::{AllocError, Global};
 use tb_pattern::{Edge, Offer, Witness};
 use tb_span::NodeId;
@@ -62,20 +62,11 @@ fn witnesses_below(
         (run (links_at links.now e) n)) }
 {
     let mut witnesses = Vec::new(alloc);
-    'links: for link in leading_from(links_of(links, e), n) {
+    'links: for link in leading_from(links_of(links, e as usize), n) {
         let rows = rows_below(alloc, edge.to.edges.as_slice(), e + 1, links, link.below)?;
         push_all(link.below, rows, &mut witnesses)?;
     }
     Ok(witnesses)
-}
-
-fn links_of(links: &[Vec<Link>], e: u32) -> &[Link]
-    requires within { e < length links.now }
-    requires rise { All (λ ls. IsRising ls.items) links.now }
-    ensures are { result.now ≡ links_at links.now e }
-    ensures rises { IsRising result.now }
-{
-    links[e as usize].as_slice()
 }
 
 /// One row with no offer.

@@ -1,9 +1,9 @@
 //! The links that lead from one node.
 
-ghost use Rattle.std.specs.Prelude.{◌≡◌, ◌≤◌, nat_eq, length};
+ghost use Rattle.std.specs.Prelude.{◌≡◌, ◌<◌, ◌≤◌, nat_eq, length, All};
 ghost use Rattle.std.specs.List.{prefix_len};
 ghost use Rattle.std.specs.List.Sorted.{IsPartitionPoint};
-ghost use Rattle.tb_twig.specs.Links.{IsRising, leading_from, starts_below, starts_from};
+ghost use Rattle.tb_twig.specs.Links.{IsRising, links_at, leading_from, starts_below, starts_from};
 
 use crate::Link;
 
@@ -17,7 +17,7 @@ pub fn leading_from(links: &[Link], n: u32) -> &[Link]
 }
 
 /// Where the links begin that lead from node n or a later one.
-fn start_of(links: &[Link], n: u32) -> usize
+pub fn start_of(links: &[Link], n: u32) -> usize
     requires { IsRising links.now }
     ensures within { result ≤ length links.now }
     ensures point { IsPartitionPoint (starts_below n) (starts_from n) links.now result }
@@ -37,4 +37,14 @@ fn run_len(links: &[Link], n: u32) -> usize
         len += 1;
     }
     len
+}
+
+/// The links of edge e.
+pub fn links_of(links: &[Vec<Link>], e: usize) -> &[Link]
+    requires within { e < length links.now }
+    requires rise { All (λ ls. IsRising ls.items) links.now }
+    ensures are { result.now ≡ links_at links.now e }
+    ensures rises { IsRising result.now }
+{
+    links[e].as_slice()
 }
