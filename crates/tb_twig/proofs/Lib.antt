@@ -10,4 +10,5 @@ pub mod RunLaws
 pub mod RowsLaws
 pub mod LayoutLaws
 pub mod HitLaws
+pub mod JoinedLaws
 pub mod TrimLaws

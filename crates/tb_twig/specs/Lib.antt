@@ -6,6 +6,7 @@ pub mod Links
 pub mod Grown
 pub mod Narrowed
 pub mod Hits
+pub mod Joins
 pub mod Trimmed
 pub mod Seen
 pub mod Offered

@@ -5,6 +5,7 @@ mod branch;
 mod condition;
 mod copies;
 mod hits;
+mod joins;
 mod layout;
 mod link;
 mod narrow;
