@@ -6,9 +6,13 @@ use Rattle.tb_twig.specs.Narrowed.{leads_from, asks}
 use Rattle.tb_twig.specs.declared.branch.Branch.{Branch}
 use Rattle.tb_twig.specs.declared.link.Link.{Link}
 
+-- what `laid_at` reads past the last edge
+abbrev pub no_laid : Branch
+no_laid = record { up = 0; axis = Child; mark = One }
+
 -- edge f of those that are laid out
 abbrev pub laid_at : List Branch → ℕ → Branch
-laid_at laid f = slice_index_or laid f (record { up = 0; axis = Child; mark = One })
+laid_at laid f = slice_index_or laid f no_laid
 
 -- the links whose lower node some link of another edge leads from
 abbrev pub leading_on : List Link → List Link → List Link
