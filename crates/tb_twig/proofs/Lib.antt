@@ -12,3 +12,5 @@ pub mod LayoutLaws
 pub mod HitLaws
 pub mod JoinedLaws
 pub mod TrimLaws
+pub mod StartLaws
+pub mod HoldsLaws

@@ -127,6 +127,16 @@ module _ (In : Numbered → Type 0) (closed : Closed In) (es : PlainEdges) (top 
       start-next : (e : ℕ) (v : Numbered) → at_start (e + 1) v ≡ (fits (branch_at es e).to v && not (nat_eq v.number 0))
       start-next e v = ap (λ n. at_start n v) (let g : e + 1 ≡ suc e = omega arith in g)
 
+  -- fewer edges are done
+  pub weaker-done : (Done Done' : ℕ → Type 0) (lists : ℕ → Numbered → Bool) (pairs : ℕ → Numbered → Numbered → Bool) → ((e : ℕ) → Done' e → Done e) → Stands Done lists pairs → Stands Done' lists pairs
+  weaker-done Done Done' lists pairs done st = record {
+    fit = st.fit;
+    reached = st.reached;
+    first = st.first;
+    found = λ e less is_done u here listed. st.found e less (done e is_done) u here listed;
+    right = λ e less is_done. st.right e less (done e is_done);
+  }
+
   -- What is linked to a living node of a list is in the list below.
   linked-lists : (Done : ℕ → Type 0) (lists : ℕ → Numbered → Bool) (pairs : ℕ → Numbered → Numbered → Bool) → Stands Done lists pairs
       → (e : ℕ) → e < length (branches_of es) → (v : Numbered) → In v → lists (branch_at es e).up v ≡ true → lives es (branch_at es e).up v ≡ true
