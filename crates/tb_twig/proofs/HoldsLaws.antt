@@ -25,7 +25,7 @@ use Rattle.tb_twig.specs.Lists.{branch_of, first_list}
 use Rattle.tb_twig.specs.Links.{IsRising, built_by}
 use Rattle.tb_twig.specs.Narrowed.{is_met, asks, leads_from, leads_to, links_between, lower_left, upper_left}
 use Rattle.tb_twig.specs.Hits.{IsNumbered}
-use Rattle.tb_twig.specs.Joins.{node_list, links_found, lists_after}
+use Rattle.tb_twig.specs.Joins.{node_list, links_found, lists_after, first_lists}
 use Rattle.tb_twig.specs.Trimmed.{laid_at, no_laid, leading_on, asks_above, trim_step, trimmed}
 use Rattle.tb_twig.specs.Offered.{offered_for, different, meeting, IsTraced}
 use Rattle.tb_twig.specs.declared.branch.Branch as code
@@ -41,7 +41,7 @@ use Rattle.tb_twig.proofs.OfferedLaws.{IsIn, Offers_of, offered-found, different
 use Rattle.tb_twig.proofs.StartLaws.{listed-same, filter-shorter, document-is, first-is, first-fewer, listed-in}
 
 -- links of pairs that agree
-links-same : (axis : Axis) (p q : Numbered → Numbered → Bool) (rs : List Row) → ((u v : Numbered) → p u v ≡ q u v) → links_of axis p rs ≡ links_of axis q rs
+pub links-same : (axis : Axis) (p q : Numbered → Numbered → Bool) (rs : List Row) → ((u v : Numbered) → p u v ≡ q u v) → links_of axis p rs ≡ links_of axis q rs
 links-same axis p q rs same =
     flat_map-alike _ _
     (λ r. ap (map _) (filter_agree (λ (s : Row). is_on axis r s && p (numbered_of r) (numbered_of s)) (λ (s : Row). is_on axis r s && q (numbered_of r) (numbered_of s))
@@ -59,7 +59,7 @@ in-push ys x f is = at (or_cases (list_any (nat_eq f) ys) (nat_eq f x || false) 
         last (inl g) = inr (eqb-true f x g)
         last (inr g) = absurd (false≢true g)
 
-met-asked : (mark : Mark) (some : Bool) → asks mark ≡ true → is_met mark some ≡ true → some ≡ true
+pub met-asked : (mark : Mark) (some : Bool) → asks mark ≡ true → is_met mark some ≡ true → some ≡ true
 met-asked One some e f = f
 met-asked Optional some e f = absurd (let g : ◌≡◌ {A = Bool} false true = e in cc)
 met-asked Some some e f = f
@@ -99,15 +99,12 @@ module _ (root : Plain) (es : PlainEdges) where
     pub lists_are : (x : ℕ) → x < many + 1 → node_list lists x ≡ listed_by (core.kept x) (table root)
     pub fewer : (e : ℕ) → e < many → length (node_list lists (e + 1)) ≤ length (meeting (test_of (branch_at es e).to) root)
 
-  abbrev pub first_lists : List (List Item)
-  first_lists = (document_item_of root ∷ []) ∷ map (λ s. first_list root s.to) (branches_of es)
-
-  first-at : (e : ℕ) → e < many → node_list first_lists (e + 1) ≡ first_list root (branch_at es e).to
+  first-at : (e : ℕ) → e < many → node_list (first_lists root es) (e + 1) ≡ first_list root (branch_at es e).to
   first-at e less =
-      ap (node_list first_lists) (let g : e + 1 ≡ suc e = omega arith in g)
+      ap (node_list (first_lists root es)) (let g : e + 1 ≡ suc e = omega arith in g)
       ∙ get_or-map (λ (s : Branch). first_list root s.to) (branches_of es) e no_branch [] less
 
-  pub holds-start : (links : List (List Link)) → length links ≡ many → ((e : ℕ) → e < many → get_or links e [] ≡ []) → Holds [] first_lists links []
+  pub holds-start : (links : List (List Link)) → length links ≡ many → ((e : ℕ) → e < many → get_or links e [] ≡ []) → Holds [] (first_lists root es) links []
   holds-start links long empty = record {
     core = record {
       kept = kept_first;
@@ -128,7 +125,7 @@ module _ (root : Plain) (es : PlainEdges) where
     where
       kept_first : ℕ → Numbered → Bool
       kept_first = at_start (Of root) (closed_of root) es (numbered_of (document_row root)) (top_of root)
-      at : (x : ℕ) → x < many + 1 → node_list first_lists x ≡ listed_by (kept_first x) (table root)
+      at : (x : ℕ) → x < many + 1 → node_list (first_lists root es) x ≡ listed_by (kept_first x) (table root)
       at zero less = sym (document-is root)
       at (suc e) less = get_or-map (λ (s : Branch). first_list root s.to) (branches_of es) e no_branch [] (omega (arith, less)) ∙ first-is root (branch_at es e).to
 

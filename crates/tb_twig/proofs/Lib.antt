@@ -14,3 +14,4 @@ pub mod JoinedLaws
 pub mod TrimLaws
 pub mod StartLaws
 pub mod HoldsLaws
+pub mod DoneLaws

@@ -10,3 +10,4 @@ pub mod Joins
 pub mod Trimmed
 pub mod Seen
 pub mod Offered
+pub mod Calls

@@ -8,6 +8,7 @@ mod hits;
 mod joins;
 mod layout;
 mod link;
+mod matching;
 mod narrow;
 mod nodes;
 mod offers;
@@ -16,4 +17,5 @@ mod run;
 mod trim;
 
 pub use link::Link;
+pub use matching::{Matched, join_edges};
 pub use tb_pattern::{Offer, Witness};
