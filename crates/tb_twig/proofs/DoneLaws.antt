@@ -5,7 +5,6 @@ use Rattle.std.proofs.lemmas.Bool.{cond-true, cond-false, cases_eq, cases_Bool, 
 use Rattle.std.proofs.lemmas.List.{length-map, length-set, get_or-map, get_or-set_same, get_or-set_other}
 use Rattle.tb_tree.specs.Plain.{Plain}
 use Rattle.tb_tree.specs.Numbers.{Numbered}
-use Rattle.tb_tree.specs.Nodes.{node_at}
 use Rattle.tb_tree.proofs.lists.Alls.{all-flat_map, all-both, all-weaker}
 use Rattle.tb_span.specs.declared.item.Axis.{Axis}
 use Rattle.tb_label.specs.Rows.{Row, document_row, table, numbered_of}
@@ -13,6 +12,7 @@ use Rattle.tb_pattern.specs.Plain.{PlainEdges}
 use Rattle.tb_pattern.specs.Witness.{naive_witnesses}
 use Rattle.tb_twig.specs.Branches.{Branch, branches_of, branch_at, no_branch, axis_of}
 use Rattle.tb_twig.specs.Lists.{branch_of}
+use Rattle.tb_twig.specs.Seen.{nth_node}
 use Rattle.tb_twig.specs.Links.{IsRising, built_by}
 use Rattle.tb_twig.specs.Narrowed.{is_met, asks, leads_from}
 use Rattle.tb_twig.specs.Trimmed.{laid_at, no_laid, leading_on, asks_above, trim_step, trimmed}
@@ -109,10 +109,10 @@ module _ (root : Plain) (es : PlainEdges) (done : List ℕ) (links : List (List 
     };
   }
 
-module _ (root : Plain) (es : PlainEdges) (done : List ℕ) (sizes : List ℕ) (all : (f : ℕ) → f < many root es → IsIn done f) (laid : List code.Branch) (laid_are : laid ≡ map branch_of (branches_of es)) where
-  laid-is : (f : ℕ) → f < many root es → laid_at laid f ≡ branch_of (branch_at es f)
-  laid-is f less = ap (λ bs. get_or bs f no_laid) laid_are ∙ get_or-map branch_of (branches_of es) f no_branch no_laid less
+pub laid-is : (root : Plain) (es : PlainEdges) (laid : List code.Branch) → laid ≡ map branch_of (branches_of es) → (f : ℕ) → f < many root es → laid_at laid f ≡ branch_of (branch_at es f)
+laid-is root es laid laid_are f less = ap (λ bs. get_or bs f no_laid) laid_are ∙ get_or-map branch_of (branches_of es) f no_branch no_laid less
 
+module _ (root : Plain) (es : PlainEdges) (done : List ℕ) (sizes : List ℕ) (all : (f : ℕ) → f < many root es → IsIn done f) (laid : List code.Branch) (laid_are : laid ≡ map branch_of (branches_of es)) where
   one_step : (links : List (List Link)) (f : ℕ) → f < many root es → Core root es done links sizes → (b : Bool) → asks_above (branch_of (branch_at es f)) ≡ b
       → Core root es done (cond b (set links ((branch_at es f).up - 1) (leading_on (get_or links f []) (get_or links ((branch_at es f).up - 1) []))) links) sizes
   one_step links f less h false e = h
@@ -128,7 +128,7 @@ module _ (root : Plain) (es : PlainEdges) (done : List ℕ) (sizes : List ℕ) (
 
   trim-one : (links : List (List Link)) (f : ℕ) → f < many root es → Core root es done links sizes → Core root es done (trim_step laid f links) sizes
   trim-one links f less h =
-      subst (λ b. Core root es done (cond (asks_above b) (set links (b.up - 1) (leading_on (get_or links f []) (get_or links (b.up - 1) []))) links) sizes) (sym (laid-is f less))
+      subst (λ b. Core root es done (cond (asks_above b) (set links (b.up - 1) (leading_on (get_or links f []) (get_or links (b.up - 1) []))) links) sizes) (sym (laid-is root es laid laid_are f less))
       (one_step links f less h (asks_above (branch_of (branch_at es f))) refl)
 
   -- from the last of so many edges to the first
@@ -138,7 +138,7 @@ module _ (root : Plain) (es : PlainEdges) (done : List ℕ) (sizes : List ℕ) (
 
 module _ (root : Plain) (es : PlainEdges) (done : List ℕ) (links : List (List Link)) (sizes : List ℕ) (all : (f : ℕ) → f < many root es → IsIn done f) (h : Core root es done links sizes) where
   -- The links give the naive witnesses.
-  pub done-rows : built_by (node_at root) (λ e. get_or links e []) 0 es 0 ≡ naive_witnesses es root
+  pub done-rows : built_by (nth_node root) (λ e. get_or links e []) 0 es 0 ≡ naive_witnesses es root
   done-rows = whole root es (IsIn done) h.kept h.pairs (λ e. get_or links e []) h.stands all (λ e less. h.links_are e less (all e less))
 
   -- Each join had at least the nodes that the rows offer for its edge.

@@ -15,3 +15,4 @@ pub mod TrimLaws
 pub mod StartLaws
 pub mod HoldsLaws
 pub mod DoneLaws
+pub mod MatchingLaws

@@ -1,6 +1,7 @@
 -- Rows put together by numbers from the links of all edges are the naive witnesses.
 use Rattle.std.proofs.Common.{◌≡◌, ℕ, suc, ◌+◌, ◌*◌, ◌-◌, ◌<◌, ◌≤◌, Bool, true, false, cond, ◌&&◌, nat_eq, ◌⊎◌, inl, inr, List, [], ◌∷◌, ◌++◌, length, get_or, map, filter, flat_map, refl, sym, ap, ap₂, ◌∙◌, subst, arith}
 use Rattle.std.specs.List.{AllByRecursion}
+use Rattle.std.proofs.lemmas.Bool.{cond-false, ne_eqb}
 use Rattle.std.proofs.lemmas.List.{map-append}
 use Rattle.std.proofs.lemmas.List.Folds.{flat_map-map}
 use Rattle.tb_tree.specs.Plain.{Plain, elem, attr, text, Plains, no_kids, kid, kids_of, one}
@@ -14,6 +15,7 @@ use Rattle.tb_label.specs.Rows.{Row, rows, rows_of, document_row, table, numbere
 use Rattle.tb_pattern.specs.Plain.{PlainEdges, no_edges, edge, matching, nodes_in}
 use Rattle.tb_pattern.specs.Witness.{witness, Offers, offer, offered, naive_witnesses}
 use Rattle.tb_twig.specs.Branches.{Branch, branches, branches_of, branch_at, axis_of}
+use Rattle.tb_twig.specs.Seen.{nth_node}
 use Rattle.tb_twig.specs.Links.{run, built_by}
 use Rattle.tb_twig.specs.declared.link.Link.{Link}
 use Rattle.tb_twig.proofs.NumberedLaws.{later}
@@ -29,7 +31,7 @@ Runs In pairs links e s = (u : Numbered) → In u → run (links e) u.number ≡
 flat_map-kept : {X Y : Type 0} (f g : X → List Y) (p : X → Bool) (xs : List X) → AllByRecursion (λ x. f x ≡ g x) xs → flat_map f (filter p xs) ≡ flat_map g (filter p xs)
 flat_map-kept f g p xs same = flat_map_same f g (filter p xs) (All-filter p (λ x. f x ≡ g x) xs (All-from_recursion (λ x. f x ≡ g x) xs same))
 
-module _ (In : Numbered → Type 0) (closed : Closed In) (look : ℕ → Plain) (looks : (v : Numbered) → In v → 1 ≤ v.number → look v.number ≡ v.node) (pairs : ℕ → Numbered → Numbered → Bool) (links : ℕ → List Link) where
+module _ (In : Numbered → Type 0) (closed : Closed In) (look : ℕ → Plain) (looks : (v : Numbered) → In v → look v.number ≡ v.node) (pairs : ℕ → Numbered → Numbered → Bool) (links : ℕ → List Link) where
   pub by-numbers : (n e : ℕ) (es : PlainEdges) → AllFrom (Runs In pairs links) e (branches n e es) → (u : Numbered) → In u → built_by look links e es u.number ≡ built pairs e es u
   by-numbers n e no_edges runs u here = refl
   by-numbers n e (edge axis mark (matching test conds whole below) others) runs u here =
@@ -42,9 +44,8 @@ module _ (In : Numbered → Type 0) (closed : Closed In) (look : ℕ → Plain) 
       (ap (flat_map found_by) (p.this u here)
       ∙ flat_map-map found_by (λ (v : Numbered). v.number) (filter (pairs e u) vs)
       ∙ flat_map-kept (λ (v : Numbered). found_by v.number) found (pairs e u) vs
-      (all-weaker (λ v. In v × (u.number + 1 ≤ v.number)) (λ v. found_by v.number ≡ found v) vs
-      (λ v k. ap₂ (λ node rows. map (witness v.number node) rows) (looks v k.0 (omega (arith, k.1))) (by-numbers (e + 1) (e + 1) below p.inside v k.0))
-      (all-both In (λ v. u.number + 1 ≤ v.number) vs (closed axis u here) (later axis u))))
+      (all-weaker In (λ v. found_by v.number ≡ found v) vs
+      (λ v k. ap₂ (λ node rows. map (witness v.number node) rows) (looks v k) (by-numbers (e + 1) (e + 1) below p.inside v k)) (closed axis u here)))
 
 -- The nodes of rows are those of the document in document order.
 rows-nodes : (clock number parent : ℕ) (at : List ℕ) (k : ℕ) (ks : Plains) → map (λ r. r.node) (rows clock number parent at k ks) ≡ nodes_of ks
@@ -71,9 +72,14 @@ pub row-node : (root : Plain) (r : Row) → Member (rows_of root) r → node_at 
 row-node root r m =
     ap (λ ns. get_or ns (r.number - 1) root) (sym (rows-nodes 2 1 0 [] 0 (one root))) ∙ at-count 1 (rows_of root) r root (table-count root).1 m
 
-pub looks-up : (root : Plain) (v : Numbered) → Of root v → 1 ≤ v.number → node_at root v.number ≡ v.node
-looks-up root v (r, is, inl top) some = absurd (let g : v.number ≡ 0 = ap (λ (u : Numbered). u.number) is ∙ ap (λ (s : Row). s.number) top in omega (arith, g, some))
-looks-up root v (r, is, inr m) some = ap (λ (u : Numbered). node_at root u.number) is ∙ row-node root r m ∙ ap (λ (u : Numbered). u.node) (sym is)
+pub looks-up : (root : Plain) (v : Numbered) → Of root v → nth_node root v.number ≡ v.node
+looks-up root v (r, is, inl top) =
+    ap (λ (u : Numbered). nth_node root u.number) is ∙ ap (λ (s : Row). nth_node root s.number) top ∙ ap (λ (s : Row). s.node) (sym top) ∙ ap (λ (u : Numbered). u.node) (sym is)
+looks-up root v (r, is, inr m) =
+    let low = member-all (λ s. 1 ≤ s.number) (rows_of root) r (count-later 1 (rows_of root) (table-count root).1) m in
+    ap (λ (u : Numbered). nth_node root u.number) is
+    ∙ cond-false (nat_eq r.number 0) (elem [] (one root)) (node_at root r.number) (ne_eqb r.number 0 (λ g. omega (arith, g, low)))
+    ∙ row-node root r m ∙ ap (λ (u : Numbered). u.node) (sym is)
 
 -- The node above an edge has no greater number than the edge.
 up-from : (n e : ℕ) (es : PlainEdges) → n ≤ e → AllFrom (λ f s. s.up ≤ f) e (branches n e es)
@@ -89,9 +95,9 @@ up-before es e less = at-zero (λ f s. s.up ≤ f) (branches_of es) e less (up-f
 pub whole : (root : Plain) (es : PlainEdges) (Done : ℕ → Type 0) (lists : ℕ → Numbered → Bool) (pairs : ℕ → Numbered → Numbered → Bool) (links : ℕ → List Link)
     → Stands (Of root) (closed_of root) es (numbered_of (document_row root)) (top_of root) Done lists pairs → ((e : ℕ) → e < length (branches_of es) → Done e)
     → ((e : ℕ) → e < length (branches_of es) → links e ≡ links_of (branch_at es e).axis (pairs e) (table root))
-    → built_by (node_at root) links 0 es 0 ≡ naive_witnesses es root
+    → built_by (nth_node root) links 0 es 0 ≡ naive_witnesses es root
 whole root es Done lists pairs links st done are =
-    by-numbers (Of root) (closed_of root) (node_at root) (looks-up root) pairs links 0 0 es
+    by-numbers (Of root) (closed_of root) (nth_node root) (looks-up root) pairs links 0 0 es
     (from-zero (Runs (Of root) pairs links) (branches_of es) (λ e less u here. ap (λ ls. run ls u.number) (are e less) ∙ runs-of root (branch_at es e).axis (pairs e) u here))
     (numbered_of (document_row root)) (top_of root)
     ∙ all_done (Of root) (closed_of root) es (numbered_of (document_row root)) (top_of root) Done lists pairs st done

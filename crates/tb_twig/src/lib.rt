@@ -4,6 +4,7 @@
 mod branch;
 mod condition;
 mod copies;
+mod found;
 mod hits;
 mod joins;
 mod layout;
@@ -16,6 +17,7 @@ mod rows;
 mod run;
 mod trim;
 
+pub use found::{Found, witnesses};
 pub use link::Link;
 pub use matching::{Matched, join_edges};
 pub use tb_pattern::{Offer, Witness};

@@ -49,6 +49,8 @@ pub fn join_edges<R: Threads + Sync, G: Gate>(
     ensures many { IfOk result (λ matched. length matched.links.items ≡ edge_count (edges_of p.now.edges)) }
     ensures trace { IfOk result (λ matched. AreTraced (plain_of store.now) (edges_of p.now.edges) order.now matched.trace.items) }
 {
+    // So short are the lists of any store.
+    let _ = store.tree();
     let mut joins = unjoined(alloc, p, store)?;
     'order: for e in order.edges() {
         join_edge(rt, alloc, &mut joins, *e as usize, settings, gate)?;

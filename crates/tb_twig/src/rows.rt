@@ -18,10 +18,29 @@ use tb_pattern::{Edge, Offer, Witness};
 use tb_span::NodeId;
 use tb_tree::Items;
 
+/// The witnesses at node n, which these edges leave: `links` has those of each edge of the pattern.
+pub fn rows_at(
+    alloc: Global,
+    edges: &[Edge],
+    links: &[Vec<Link>],
+    n: u32,
+) -> Result<Vec<Witness>, AllocError>
+    requires numbers { nodes_in (edges_of edges.now) ≤ length links.now }
+    requires few { length links.now < 2 ^ 32 }
+    requires rise { All (λ ls. IsRising ls.items) links.now }
+    ensures { IfOk result (λ witnesses. (look : ℕ → Plain) → map (seen look) witnesses.items
+        ≡ map (witness n (look n)) (built_by look (links_at links.now) 0 (edges_of edges.now) n)) }
+{
+    let rows = rows_below(alloc, edges, 0, links, n)?;
+    let mut witnesses = Vec::with_capacity(alloc, rows.len())?;
+    push_all(n, rows, &mut witnesses)?;
+    Ok(witnesses)
+}
+
 /// The rows of node n, one offer an edge, where the first of these edges has the number e: `links` has those
 /// of each edge of the pattern.
 #[cycle(rows)]
-pub fn rows_below(
+fn rows_below(
     alloc: Global,
     edges: &[Edge],
     e: u32,
