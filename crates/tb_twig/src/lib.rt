@@ -21,3 +21,6 @@ pub use found::{Found, witnesses};
 pub use link::Link;
 pub use matching::{Matched, join_edges};
 pub use tb_pattern::{Offer, Witness};
+
+#[cfg(test)]
+mod tests;
