@@ -1,17 +1,16 @@
 -- Rows built from pairs of neighbouring pattern nodes are the naive ones, where each pair that is kept fits, and each
 -- pair that matters is kept.
-use Rattle.std.proofs.Common.{◌≡◌, ℕ, zero, suc, ◌+◌, ◌<◌, Bool, true, false, cond, ◌&&◌, ◌⊎◌, inl, inr, List, [], ◌∷◌, ◌++◌, length, get_or, map, filter, flat_map, refl, sym, ap, ap₂, ◌∙◌, subst, arith, length-append}
-use Rattle.std.specs.List.{AllByRecursion, list_any}
-use Rattle.std.proofs.lemmas.Bool.{cond-true, cond-false, false≢true, and_parts, and_from, cases_Bool, true_from_ne_false, false_from_ne_true}
-use Rattle.tb_tree.specs.Plain.{Plain, kids_of}
+use Rattle.std.proofs.Common.{◌≡◌, ℕ, zero, suc, ◌+◌, ◌<◌, Bool, true, false, cond, ◌&&◌, List, [], ◌∷◌, ◌++◌, length, get_or, map, filter, flat_map, refl, sym, ap, ap₂, ◌∙◌, subst, arith, length-append}
+use Rattle.std.specs.List.{AllByRecursion}
+use Rattle.std.proofs.lemmas.Bool.{cond-true, false≢true, and_parts, and_from, false_from_ne_true}
+use Rattle.tb_tree.specs.Plain.{kids_of}
 use Rattle.tb_tree.specs.Numbers.{Numbered}
 use Rattle.tb_tree.proofs.lists.Alls.{all-both, all-weaker}
 use Rattle.tb_span.specs.declared.item.Axis.{Axis}
 use Rattle.tb_pattern.specs.Plain.{PlainPattern, matching, PlainEdges, no_edges, edge, nodes_in}
-use Rattle.tb_pattern.specs.Witness.{Witness, witness, Offers, no_offers, offer, offered, witnesses_at, choices}
+use Rattle.tb_pattern.specs.Witness.{witness, Offers, no_offers, offer, offered, witnesses_at, choices}
 use Rattle.tb_pattern.specs.declared.pattern.Mark.{Mark}
 use Rattle.tb_twig.specs.Branches.{Branch, branches, fits, axis_of}
-use Rattle.tb_twig.specs.Narrowed.{is_met}
 use Rattle.tb_twig.proofs.HasLaws.{has, has-map, has-none, has-flat_map, has-product, has-offered, met-more, any-filter, any-more}
 
 -- The rows from pairs: those of edge e for which `pairs e` holds.
@@ -42,9 +41,10 @@ from-weaker P Q e (s ∷ ss) weaker all = (weaker e s all.0, from-weaker P Q (e 
 
 pub from-all : (P : ℕ → Branch → Type 0) (e : ℕ) (ss : List Branch) (d : Branch) → ((f : ℕ) → f < length ss → P (e + f) (get_or ss f d)) → AllFrom P e ss
 from-all P e [] d all = tt
-from-all P e (s ∷ ss) d all =
-    (subst (λ n. P n s) (let g : e + 0 ≡ e = omega arith in g) (all 0 (omega arith)),
-    from-all P (e + 1) ss d (λ f less. subst (λ n. P n (get_or ss f d)) (let g : e + suc f ≡ e + 1 + f = omega arith in g) (all (suc f) (omega (arith, less)))))
+from-all P e (s ∷ ss) d all = (
+  subst (λ n. P n s) (let g : e + 0 ≡ e = omega arith in g) (all 0 (omega arith)),
+  from-all P (e + 1) ss d (λ f less. subst (λ n. P n (get_or ss f d)) (let g : e + suc f ≡ e + 1 + f = omega arith in g) (all (suc f) (omega (arith, less)))),
+)
 
 pub at-place : (P : ℕ → Branch → Type 0) (e : ℕ) (ss : List Branch) (d : Branch) (f : ℕ) → f < length ss → AllFrom P e ss → P (e + f) (get_or ss f d)
 at-place P e [] d f less all = absurd (omega (arith, less))

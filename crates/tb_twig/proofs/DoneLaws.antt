@@ -1,25 +1,23 @@
 -- Once all edges are joined: links in vain are dropped, and the links that are left give the naive witnesses.
-use Rattle.std.proofs.Common.{◌≡◌, ℕ, zero, suc, ◌+◌, ◌-◌, ◌<◌, ◌≤◌, Bool, true, false, cond, not, ◌&&◌, nat_eq, ◌⊎◌, inl, inr, List, [], ◌∷◌, length, get_or, map, filter, flat_map, set, refl, sym, ap, ap₂, ◌∙◌, subst, arith}
+use Rattle.std.proofs.Common.{◌≡◌, ℕ, zero, suc, ◌+◌, ◌-◌, ◌<◌, ◌≤◌, Bool, true, false, cond, not, ◌&&◌, nat_eq, ◌⊎◌, inl, inr, List, [], ◌∷◌, length, get_or, map, flat_map, set, refl, sym, ap, ◌∙◌, subst, arith}
 use Rattle.std.specs.List.{AllByRecursion, list_any}
-use Rattle.std.proofs.lemmas.Bool.{cond-true, cond-false, cases_eq, cases_Bool, eq-eqb, ne_eqb, eqb-true, and_parts, not-true}
-use Rattle.std.proofs.lemmas.List.{length-map, length-set, get_or-map, get_or-set_same, get_or-set_other}
+use Rattle.std.proofs.lemmas.Bool.{cond-true, cond-false, cases_eq, eq-eqb, ne_eqb, eqb-true, and_parts, not-true}
+use Rattle.std.proofs.lemmas.List.{length-set, get_or-map, get_or-set_same, get_or-set_other}
 use Rattle.tb_tree.specs.Plain.{Plain}
 use Rattle.tb_tree.specs.Numbers.{Numbered}
-use Rattle.tb_tree.proofs.lists.Alls.{all-flat_map, all-both, all-weaker}
-use Rattle.tb_span.specs.declared.item.Axis.{Axis}
-use Rattle.tb_label.specs.Rows.{Row, document_row, table, numbered_of}
+use Rattle.tb_tree.proofs.lists.Alls.{all-flat_map}
+use Rattle.tb_label.specs.Rows.{document_row, table, numbered_of}
 use Rattle.tb_pattern.specs.Plain.{PlainEdges}
 use Rattle.tb_pattern.specs.Witness.{naive_witnesses}
 use Rattle.tb_twig.specs.Branches.{Branch, branches_of, branch_at, no_branch, axis_of}
 use Rattle.tb_twig.specs.Lists.{branch_of}
 use Rattle.tb_twig.specs.Seen.{nth_node}
 use Rattle.tb_twig.specs.Links.{IsRising, built_by}
-use Rattle.tb_twig.specs.Narrowed.{is_met, asks, leads_from}
+use Rattle.tb_twig.specs.Narrowed.{asks, leads_from}
 use Rattle.tb_twig.specs.Trimmed.{laid_at, no_laid, leading_on, asks_above, trim_step, trimmed}
-use Rattle.tb_twig.specs.Offered.{offered_for, different, IsTraced}
+use Rattle.tb_twig.specs.Offered.{offered_for, IsTraced}
 use Rattle.tb_twig.specs.declared.branch.Branch as code
 use Rattle.tb_twig.specs.declared.link.Link.{Link}
-use Rattle.tb_twig.proofs.BuiltLaws.{built}
 use Rattle.tb_twig.proofs.StandsLaws.{lives, from-zero, has_pairs, lists_trimmed, pairs_trimmed, all_done}
 use Rattle.tb_twig.proofs.StandsLaws as stands
 use Rattle.tb_twig.proofs.TableLaws.{Of, closed_of, top_of}

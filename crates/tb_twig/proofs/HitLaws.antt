@@ -1,11 +1,11 @@
 -- The places that are hit, and what is chosen by them, as filters by numbers of nodes.
-use Rattle.std.proofs.Common.{◌≡◌, ℕ, zero, suc, ◌+◌, ◌-◌, ◌<◌, ◌≤◌, Bool, true, false, cond, not, ◌&&◌, ◌||◌, nat_eq, ◌⊎◌, inl, inr, List, [], ◌∷◌, ◌++◌, All, AllPairs, length, get_or, map, filter, refl, sym, ap, ap₂, ◌∙◌, subst, arith}
-use Rattle.std.specs.List.{AllByRecursion, list_any}
-use Rattle.std.proofs.lemmas.Bool.{cond-true, cond-false, cases_eq, cases_order, eq-eqb, ne_eqb}
+use Rattle.std.proofs.Common.{◌≡◌, ℕ, ◌+◌, ◌<◌, ◌≤◌, Bool, true, false, cond, ◌||◌, nat_eq, ◌⊎◌, inl, inr, List, [], ◌∷◌, ◌++◌, All, length, get_or, map, filter, refl, sym, ap, ap₂, ◌∙◌, arith}
+use Rattle.std.specs.List.{list_any}
+use Rattle.std.proofs.lemmas.Bool.{cases_eq, cases_order, eq-eqb, ne_eqb}
 use Rattle.std.proofs.lemmas.List.{map-append}
-use Rattle.std.proofs.lemmas.List.Elements.{All-from_recursion, All-head, All-tail, filter-append}
+use Rattle.std.proofs.lemmas.List.Elements.{All-from_recursion, All-head, All-tail}
 use Rattle.std.proofs.lemmas.List.Kept.{AllPairs-cons}
-use Rattle.tb_tree.proofs.lists.Alls.{all-weaker, all-kept}
+use Rattle.tb_tree.proofs.lists.Alls.{all-kept}
 use Rattle.tb_tree.proofs.lists.Filters.{filter-map, filter_same, filter-fixed}
 use Rattle.tb_tree.proofs.lists.Ranges.{All-range, map-range}
 use Rattle.tb_tree.proofs.lists.Pairs.{AllPairs-nil}
@@ -16,7 +16,7 @@ use Rattle.tb_span.specs.declared.item.Item.{Item}
 use Rattle.tb_span.specs.declared.item.Pair.{Pair}
 use Rattle.tb_stackjoin.proofs.PlaceLaws.{filter_places-yes, filter_places-no}
 use Rattle.tb_label.specs.Rows.{Row, table, numbered_of, item_of}
-use Rattle.tb_twig.specs.Narrowed.{leads_from, leads_to, is_met, asks, lower_left, upper_left}
+use Rattle.tb_twig.specs.Narrowed.{leads_from, leads_to, asks, lower_left, upper_left}
 use Rattle.tb_pattern.specs.declared.pattern.Mark.{Mark}
 use Rattle.tb_pattern.specs.declared.pattern.Mark.TheVariants.{One, Optional, Some, Any}
 use Rattle.tb_twig.specs.Hits.{link_at, IsNumbered, AreWithin, AreHits, chosen}
@@ -117,6 +117,7 @@ listed-numbered p m (r ∷ rs) count = at (p (numbered_of r)) (listed-numbered p
     behind =
         All-from_recursion (Rises (item_of r)) (listed_by p rs)
         (all-kept (λ (s : Row). m + 1 ≤ s.number) (Rises (item_of r)) item_of (λ s. p (numbered_of s)) rs (λ s low. omega (arith, low, count.0)) (count-later (m + 1) rs count.1))
+
     at : (b : Bool) → IsNumbered (listed_by p rs) → IsNumbered (map item_of (cond b (r ∷ filter (λ s. p (numbered_of s)) rs) (filter (λ s. p (numbered_of s)) rs)))
     at true others = AllPairs-cons Rises (item_of r) (listed_by p rs) behind others
     at false others = others

@@ -1,43 +1,36 @@
 -- What the joins of some edges know, as lists of items and links: at the start, after one more join, and after links
 -- in vain are dropped; and what that says of rows and traces once all edges are joined.
-use Rattle.std.proofs.Common.{◌≡◌, ℕ, zero, suc, ◌+◌, ◌-◌, ◌<◌, ◌≤◌, Bool, true, false, cond, not, ◌&&◌, ◌||◌, nat_eq, ◌⊎◌, inl, inr, List, [], ◌∷◌, ◌++◌, All, length, get_or, map, filter, flat_map, set, refl, sym, ap, ap₂, ◌∙◌, subst, arith}
-use Rattle.std.specs.List.{AllByRecursion, list_any}
+use Rattle.std.proofs.Common.{◌≡◌, ℕ, zero, suc, ◌+◌, ◌<◌, ◌≤◌, Bool, true, false, cond, ◌&&◌, ◌||◌, nat_eq, ◌⊎◌, inl, inr, List, [], ◌∷◌, ◌++◌, length, get_or, map, set, refl, sym, ap, ap₂, ◌∙◌, subst, arith}
+use Rattle.std.specs.List.{list_any}
 use Rattle.std.proofs.lemmas.Bool.{cond-true, cond-false, cases_eq, cases_lt, eq-eqb, ne_eqb, eqb-true, and_parts, or_cases, false≢true}
 use Rattle.std.proofs.lemmas.List.{length-map, length-set, length_push, get_or-map, get_or-set_same, get_or-set_other, get_or_append_left, get_or_at}
 use Rattle.std.proofs.lemmas.List.Elements.{filter_agree}
 use Rattle.std.proofs.lemmas.List.Folds.{list_any-append}
-use Rattle.tb_tree.specs.Plain.{Plain, kids_of}
+use Rattle.tb_tree.specs.Plain.{Plain}
 use Rattle.tb_tree.specs.Numbers.{Numbered}
-use Rattle.tb_tree.specs.Nodes.{node_at}
-use Rattle.tb_tree.proofs.lists.Alls.{all-flat_map, all-both, all-weaker}
 use Rattle.tb_span.specs.Lists.{AreJoinable}
 use Rattle.tb_span.specs.declared.item.Axis.{Axis}
 use Rattle.tb_span.specs.declared.item.Item.{Item}
-use Rattle.tb_label.specs.Rows.{Row, document_row, table, numbered_of, item_of, is_on}
-use Rattle.tb_label.specs.Stores.{document_item_of}
+use Rattle.tb_label.specs.Rows.{Row, document_row, table, numbered_of, is_on}
 use Rattle.tb_label.proofs.NestLaws.{rows_joinable}
-use Rattle.tb_pattern.specs.Plain.{PlainEdges, nodes_in}
-use Rattle.tb_pattern.specs.Witness.{naive_witnesses}
+use Rattle.tb_pattern.specs.Plain.{PlainEdges}
 use Rattle.tb_pattern.specs.declared.pattern.Mark.{Mark}
 use Rattle.tb_pattern.specs.declared.pattern.Mark.TheVariants.{One, Optional, Some, Any}
-use Rattle.tb_twig.specs.Branches.{Branch, branches, branches_of, branch_at, no_branch, test_of, axis_of}
+use Rattle.tb_twig.specs.Branches.{Branch, branches_of, branch_at, no_branch, test_of}
 use Rattle.tb_twig.specs.Lists.{branch_of, first_list}
-use Rattle.tb_twig.specs.Links.{IsRising, built_by}
+use Rattle.tb_twig.specs.Links.{IsRising}
 use Rattle.tb_twig.specs.Narrowed.{is_met, asks, leads_from, leads_to, links_between, lower_left, upper_left}
 use Rattle.tb_twig.specs.Hits.{IsNumbered}
 use Rattle.tb_twig.specs.Joins.{node_list, links_found, lists_after, first_lists}
-use Rattle.tb_twig.specs.Trimmed.{laid_at, no_laid, leading_on, asks_above, trim_step, trimmed}
-use Rattle.tb_twig.specs.Offered.{offered_for, different, meeting, IsTraced}
-use Rattle.tb_twig.specs.declared.branch.Branch as code
+use Rattle.tb_twig.specs.Offered.{meeting}
 use Rattle.tb_twig.specs.declared.link.Link.{Link}
-use Rattle.tb_twig.proofs.BuiltLaws.{built}
-use Rattle.tb_twig.proofs.StandsLaws.{Stands, lives, from-zero, at_start, starts, weaker-done, narrowed, has_pairs, trimmed as stands-trimmed, lists_trimmed, pairs_trimmed, all_done}
+use Rattle.tb_twig.proofs.StandsLaws.{Stands, at_start, starts, weaker-done, narrowed}
 use Rattle.tb_twig.proofs.TableLaws.{Of, closed_of, top_of}
-use Rattle.tb_twig.proofs.LinkLaws.{listed_by, links_of, flat_map-alike, narrowed_list, trimmed_links, joined-links, above-of, lists_then, pairs_then, narrows, joins}
-use Rattle.tb_twig.proofs.RunLaws.{links-rise, rising-filter}
+use Rattle.tb_twig.proofs.LinkLaws.{listed_by, links_of, flat_map-alike, narrowed_list, joined-links, lists_then, pairs_then, narrows, joins}
+use Rattle.tb_twig.proofs.RunLaws.{links-rise}
 use Rattle.tb_twig.proofs.HitLaws.{lists-numbered}
-use Rattle.tb_twig.proofs.WholeLaws.{up-before, whole}
-use Rattle.tb_twig.proofs.OfferedLaws.{IsIn, Offers_of, offered-found, different-within}
+use Rattle.tb_twig.proofs.WholeLaws.{up-before}
+use Rattle.tb_twig.proofs.OfferedLaws.{IsIn}
 use Rattle.tb_twig.proofs.StartLaws.{listed-same, filter-shorter, document-is, first-is, first-fewer, listed-in}
 
 -- links of pairs that agree
@@ -125,6 +118,7 @@ module _ (root : Plain) (es : PlainEdges) where
     where
       kept_first : ℕ → Numbered → Bool
       kept_first = at_start (Of root) (closed_of root) es (numbered_of (document_row root)) (top_of root)
+
       at : (x : ℕ) → x < many + 1 → node_list (first_lists root es) x ≡ listed_by (kept_first x) (table root)
       at zero less = sym (document-is root)
       at (suc e) less = get_or-map (λ (s : Branch). first_list root s.to) (branches_of es) e no_branch [] (omega (arith, less)) ∙ first-is root (branch_at es e).to

@@ -1,5 +1,5 @@
 -- What a structural join by ancestor is as links, and where its pairs lie.
-use Rattle.std.proofs.Common.{◌≡◌, ℕ, ◌<◌, List, All, length, map, flat_map, sym, ap, ◌∙◌, subst}
+use Rattle.std.proofs.Common.{◌≡◌, ◌<◌, List, length, map, sym, ap, ◌∙◌, subst}
 use Rattle.std.proofs.lemmas.List.Elements.{All-weaker}
 use Rattle.tb_span.specs.Seeds.{all_of}
 use Rattle.tb_span.specs.declared.item.Axis.{Axis}

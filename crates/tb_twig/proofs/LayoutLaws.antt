@@ -1,20 +1,19 @@
 -- The first lists and the flat list of edges.
-use Rattle.std.proofs.Common.{◌≡◌, ℕ, suc, ◌+◌, ◌-◌, ◌<◌, ◌≤◌, Bool, true, false, cond, ◌&&◌, not, nat_eq, List, [], ◌∷◌, ◌++◌, All, length, map, filter, drop, get_or, refl, sym, ap, ap₂, ◌∙◌, subst, arith, rules, append_assoc, length-append}
-use Rattle.std.specs.List.{AllByRecursion, list_all}
-use Rattle.std.proofs.lemmas.Bool.{cond-true, cond-false, eq-eqb, ne_eqb, and_right}
+use Rattle.std.proofs.Common.{◌≡◌, ℕ, ◌+◌, ◌<◌, ◌≤◌, true, ◌&&◌, List, [], ◌∷◌, ◌++◌, All, length, map, filter, drop, refl, sym, ap, ap₂, ◌∙◌, subst, arith, rules, append_assoc, length-append}
+use Rattle.std.specs.List.{AllByRecursion}
 use Rattle.std.proofs.lemmas.List.{map-append, length-map}
 use Rattle.std.proofs.lemmas.List.Elements.{All-from_recursion, filter_agree}
 use Rattle.tb_tree.specs.Plain.{Plain, one}
-use Rattle.tb_tree.specs.Numbers.{Numbered, count}
+use Rattle.tb_tree.specs.Numbers.{count}
 use Rattle.tb_tree.specs.Nodes.{node_at}
 use Rattle.tb_tree.specs.Meets.{meets}
 use Rattle.tb_tree.specs.Value.{value_of}
 use Rattle.tb_tree.specs.declared.node_test.Test.{Test}
 use Rattle.tb_tree.proofs.lists.Alls.{all-both, all-weaker, all-kept}
-use Rattle.tb_tree.proofs.lists.Filters.{filter-map, filter-fixed, both_filters}
+use Rattle.tb_tree.proofs.lists.Filters.{filter-fixed}
 use Rattle.tb_span.specs.declared.item.Axis.{Axis}
 use Rattle.tb_span.specs.declared.item.Item.{Item}
-use Rattle.tb_label.specs.Rows.{Row, rows_of, document_row, table, numbered_of, item_of, listed}
+use Rattle.tb_label.specs.Rows.{Row, rows_of, item_of, listed}
 use Rattle.tb_label.specs.Comparands.{stands_to}
 use Rattle.tb_label.proofs.RowLaws.{length-rows}
 use Rattle.tb_number.specs.declared.op.CmpOp.{CmpOp}
@@ -27,14 +26,12 @@ use Rattle.tb_pattern.specs.declared.cond.Literal.TheVariants.{Number, Text}
 use Rattle.tb_pattern.specs.declared.pattern.Mark.{Mark}
 use Rattle.tb_pattern.specs.declared.pattern.Edge.{Edge, out-Edge, the_lemmas}
 use Rattle.tb_pattern.specs.declared.pattern.PNode.{PNode, out-PNode}
-use Rattle.tb_twig.specs.Branches.{Branch, branch_to, branches, branches_in, inside, below_of, test_of, fits}
+use Rattle.tb_twig.specs.Branches.{Branch, branch_to, branches, branches_in, inside, below_of, test_of}
 use Rattle.tb_twig.specs.Lists.{branch_of, conds_of, holding, first_list, comparand_of, prepared, all_stand}
 use Rattle.tb_twig.specs.declared.branch.Branch as code
 use Rattle.tb_twig.specs.declared.condition.Condition.{Condition}
-use Rattle.tb_twig.proofs.TableLaws.{CountOn, count-later, table-count, Member, all-members}
-use Rattle.tb_twig.proofs.WholeLaws.{row-node}
+use Rattle.tb_twig.proofs.TableLaws.{CountOn, count-later, table-count}
 use Rattle.tb_twig.proofs.BuiltLaws.{length-branches}
-use Rattle.tb_twig.proofs.LinkLaws.{listed_by}
 
 -- A condition that is prepared says what it said.
 stands-prepared : (op : CmpOp) (value : List ℕ) (with : Literal) → stands_to op value (comparand_of with) ≡ stands op value with

@@ -1,14 +1,13 @@
 -- Lists of nodes and links as a function of the rows of a document, and what narrowing makes of them.
-use Rattle.std.proofs.Common.{◌≡◌, ℕ, suc, ◌+◌, ◌<◌, ◌≤◌, Bool, true, false, cond, ◌&&◌, ◌||◌, nat_eq, List, [], ◌∷◌, ◌++◌, length, get_or, map, filter, flat_map, refl, sym, ap, ap₂, ◌∙◌, subst, arith}
+use Rattle.std.proofs.Common.{◌≡◌, ℕ, ◌+◌, ◌≤◌, Bool, true, false, cond, ◌&&◌, ◌||◌, nat_eq, List, [], ◌∷◌, get_or, map, filter, flat_map, refl, sym, ap, ◌∙◌, arith}
 use Rattle.std.specs.List.{AllByRecursion, list_any}
-use Rattle.std.proofs.lemmas.Bool.{cond-true, cond-false, eq-eqb, ne_eqb, eqb-true, and_parts, and_from, or_left, or_right}
-use Rattle.std.proofs.lemmas.List.{map-append}
-use Rattle.std.proofs.lemmas.List.Elements.{filter-append, filter_agree}
+use Rattle.std.proofs.lemmas.Bool.{cond-true, cond-false, eq-eqb, ne_eqb, and_parts, and_from, or_left, or_right}
+use Rattle.std.proofs.lemmas.List.Elements.{filter_agree}
 use Rattle.std.proofs.lemmas.List.Folds.{flat_map-map}
 use Rattle.std.proofs.lemmas.Simd.{map-map}
 use Rattle.tb_tree.specs.Plain.{Plain}
 use Rattle.tb_tree.specs.Numbers.{Numbered}
-use Rattle.tb_tree.proofs.lists.Alls.{all-both, all-weaker}
+use Rattle.tb_tree.proofs.lists.Alls.{all-weaker}
 use Rattle.tb_tree.proofs.lists.Filters.{filter-map, filter-flat_map, filter-fixed, both_filters}
 use Rattle.tb_tree.proofs.lists.Maps.{map-flat_map, flat_map_same}
 use Rattle.tb_span.specs.Lists.{is_related}
@@ -20,10 +19,10 @@ use Rattle.tb_twig.specs.Branches.{Branch, branch_at, axis_of}
 use Rattle.tb_twig.specs.Links.{run}
 use Rattle.tb_twig.specs.declared.link.Link.{Link}
 use Rattle.tb_twig.specs.Narrowed.{link, links_under, links_between, leads_from, leads_to, is_met}
-use Rattle.tb_twig.proofs.HasLaws.{has, has-map, has-none, met-more, any-filter, any-map, any-more, any-same}
+use Rattle.tb_twig.proofs.HasLaws.{has, has-map, met-more, any-filter, any-map, any-more}
 use Rattle.tb_twig.proofs.BuiltLaws.{kept_same}
 use Rattle.tb_twig.proofs.StandsLaws.{Narrows, Joins}
-use Rattle.tb_twig.proofs.TableLaws.{Member, Of, axis-found, table-count, alone-of, top_of, closed_of}
+use Rattle.tb_twig.proofs.TableLaws.{Of, axis-found, table-count, alone-of, top_of, closed_of}
 
 -- the items of the rows whose nodes pass
 abbrev pub listed_by : (Numbered → Bool) → List Row → List Item
@@ -102,11 +101,12 @@ run-below links n m some =
 -- each that passes is among those that pass
 any-itself : (p : Numbered → Bool) (vs : List Numbered) → AllByRecursion (λ v. p v ≡ true → list_any (λ k. nat_eq k v.number) (map (λ w. w.number) (filter p vs)) ≡ true) vs
 any-itself p [] = tt
-any-itself p (x ∷ xs) =
-    ((λ e. rw e (or_left (nat_eq x.number x.number) (list_any (λ k. nat_eq k x.number) (map (λ (w : Numbered). w.number) (filter p xs))) (eq-eqb x.number x.number refl))),
-    all-weaker (λ v. p v ≡ true → list_any (λ k. nat_eq k v.number) (map (λ (w : Numbered). w.number) (filter p xs)) ≡ true)
-    (λ v. p v ≡ true → list_any (λ k. nat_eq k v.number) (map (λ (w : Numbered). w.number) (filter p (x ∷ xs))) ≡ true) xs
-    (λ v k e. at v (p x) (k e)) (any-itself p xs))
+any-itself p (x ∷ xs) = (
+  (λ e. rw e (or_left (nat_eq x.number x.number) (list_any (λ k. nat_eq k x.number) (map (λ (w : Numbered). w.number) (filter p xs))) (eq-eqb x.number x.number refl))),
+  all-weaker (λ v. p v ≡ true → list_any (λ k. nat_eq k v.number) (map (λ (w : Numbered). w.number) (filter p xs)) ≡ true)
+      (λ v. p v ≡ true → list_any (λ k. nat_eq k v.number) (map (λ (w : Numbered). w.number) (filter p (x ∷ xs))) ≡ true) xs
+      (λ v k e. at v (p x) (k e)) (any-itself p xs),
+)
   where
     at : (v : Numbered) (b : Bool) → list_any (λ k. nat_eq k v.number) (map (λ (w : Numbered). w.number) (filter p xs)) ≡ true
         → list_any (λ k. nat_eq k v.number) (map (λ (w : Numbered). w.number) (cond b (x ∷ filter p xs) (filter p xs))) ≡ true

@@ -1,12 +1,11 @@
 -- The loop over the order, and what stands when it has ended.
-use Rattle.std.proofs.Common.{◌≡◌, ℕ, zero, suc, ◌+◌, ◌-◌, ◌<◌, ◌≤◌, ◌^◌, Bool, true, false, cond, ◌||◌, nat_eq, ◌⊎◌, inl, inr, List, [], ◌∷◌, ◌++◌, All, length, get_or, map, filter, set, take, replicate, refl, sym, ap, ap₂, ◌∙◌, subst, arith, Vec, Global}
+use Rattle.std.proofs.Common.{◌≡◌, ℕ, ◌+◌, ◌<◌, ◌≤◌, ◌^◌, ◌||◌, nat_eq, ◌⊎◌, inl, inr, List, [], ◌∷◌, ◌++◌, All, length, get_or, map, set, take, replicate, refl, sym, ap, ap₂, ◌∙◌, subst, arith, Vec, Global}
 use Rattle.std.specs.List.{list_any}
 use Rattle.std.proofs.lemmas.Bool.{cases_eq, eq-eqb, ne_eqb}
 use Rattle.std.proofs.lemmas.List.{length-map, length-replicate, get_or-map, get_or-replicate, take_more, take_all}
-use Rattle.std.proofs.lemmas.List.Elements.{All-from_get_or, All-map, All-get_or}
+use Rattle.std.proofs.lemmas.List.Elements.{All-from_get_or, All-map}
 use Rattle.tb_tree.specs.Plain.{Plain, one}
 use Rattle.tb_tree.specs.Numbers.{Numbered, count, all_numbered}
-use Rattle.tb_tree.specs.Nodes.{node_at}
 use Rattle.tb_tree.specs.Meets.{meets}
 use Rattle.tb_tree.specs.declared.node_test.Test.{Test}
 use Rattle.tb_span.specs.Lists.{AreJoinable}
@@ -14,20 +13,18 @@ use Rattle.tb_span.specs.declared.item.Item.{Item}
 use Rattle.tb_label.specs.Rows.{rows_of, numbered_of}
 use Rattle.tb_label.proofs.RowLaws.{length-rows}
 use Rattle.tb_label.proofs.PlacedLaws.{numbered}
-use Rattle.tb_pattern.specs.Plain.{PlainEdges, nodes_in}
-use Rattle.tb_pattern.specs.Witness.{naive_witnesses}
+use Rattle.tb_pattern.specs.Plain.{PlainEdges}
 use Rattle.tb_parjoin.specs.Traces.{Trace}
 use Rattle.tb_plan.specs.Orders.{edge_count, IsOrderOf}
-use Rattle.tb_plan.specs.Marks as marks
 use Rattle.tb_plan.proofs.CountLaws.{count-nodes}
 use Rattle.tb_plan.proofs.OrderLaws.{order-each, order-below}
 use Rattle.tb_twig.specs.Branches.{Branch, branches_of, branch_at, no_branch, test_of}
 use Rattle.tb_twig.specs.Lists.{branch_of}
-use Rattle.tb_twig.specs.Links.{IsRising, lists_in, links_at, built_by}
+use Rattle.tb_twig.specs.Links.{IsRising, lists_in}
 use Rattle.tb_twig.specs.Hits.{IsNumbered}
 use Rattle.tb_twig.specs.Joins.{node_list, links_found, lists_after, first_lists}
-use Rattle.tb_twig.specs.Trimmed.{laid_at, no_laid, trimmed}
-use Rattle.tb_twig.specs.Offered.{meeting, IsTraced}
+use Rattle.tb_twig.specs.Trimmed.{laid_at, trimmed}
+use Rattle.tb_twig.specs.Offered.{meeting}
 use Rattle.tb_twig.specs.Calls.{AreLinks, AreTraced}
 use Rattle.tb_twig.specs.declared.branch.Branch as code
 use Rattle.tb_twig.specs.declared.link.Link.{Link}

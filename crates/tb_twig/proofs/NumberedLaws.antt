@@ -1,7 +1,7 @@
 -- Numbers on the axis of a node are greater than its own.
-use Rattle.std.proofs.Common.{◌≡◌, ℕ, ◌+◌, ◌≤◌, List, [], ◌∷◌, ◌++◌, arith}
+use Rattle.std.proofs.Common.{ℕ, ◌+◌, ◌≤◌, List, arith}
 use Rattle.std.specs.List.{AllByRecursion}
-use Rattle.tb_tree.specs.Plain.{Plain, elem, attr, text, Plains, no_kids, kid, kids_of}
+use Rattle.tb_tree.specs.Plain.{elem, attr, text, Plains, no_kids, kid, kids_of}
 use Rattle.tb_tree.specs.Numbers.{counts, count, Numbered, kids_numbered, all_numbered}
 use Rattle.tb_tree.proofs.lists.Alls.{all-append, all-weaker}
 use Rattle.tb_span.specs.declared.item.Axis.{Axis}
@@ -20,11 +20,12 @@ kids-later n (kid node rest) = (omega arith, from-later (n + count node) n (kids
 
 all-later : (n : ℕ) (ks : Plains) → AllByRecursion (From n) (all_numbered n ks)
 all-later n no_kids = tt
-all-later n (kid (elem name kids) rest) =
-    (omega arith,
-    all-append (From n) (all_numbered (n + 1) kids) (all_numbered (n + 1 + counts kids) rest)
-    (from-later (n + 1) n (all_numbered (n + 1) kids) (omega arith) (all-later (n + 1) kids))
-    (from-later (n + 1 + counts kids) n (all_numbered (n + 1 + counts kids) rest) (omega arith) (all-later (n + 1 + counts kids) rest)))
+all-later n (kid (elem name kids) rest) = (
+  omega arith,
+  all-append (From n) (all_numbered (n + 1) kids) (all_numbered (n + 1 + counts kids) rest)
+      (from-later (n + 1) n (all_numbered (n + 1) kids) (omega arith) (all-later (n + 1) kids))
+      (from-later (n + 1 + counts kids) n (all_numbered (n + 1 + counts kids) rest) (omega arith) (all-later (n + 1 + counts kids) rest)),
+)
 all-later n (kid (attr name value) rest) = (omega arith, from-later (n + 1) n (all_numbered (n + 1) rest) (omega arith) (all-later (n + 1) rest))
 all-later n (kid (text value) rest) = (omega arith, from-later (n + 1) n (all_numbered (n + 1) rest) (omega arith) (all-later (n + 1) rest))
 

@@ -1,14 +1,12 @@
 -- The nodes that rows offer for an edge are lower nodes of its pairs; so there are no more different ones than
 -- nodes in the list that was joined for it.
-use Rattle.std.proofs.Common.{◌≡◌, ℕ, zero, suc, ◌+◌, ◌<◌, ◌≤◌, Bool, true, false, cond, not, ◌&&◌, ◌||◌, nat_eq, ◌⊎◌, inl, inr, List, [], ◌∷◌, ◌++◌, length, map, filter, flat_map, refl, sym, ap, ap₂, ◌∙◌, subst, arith}
+use Rattle.std.proofs.Common.{◌≡◌, ℕ, ◌+◌, ◌≤◌, Bool, true, false, cond, not, nat_eq, ◌⊎◌, inl, inr, List, [], ◌∷◌, length, map, filter, flat_map, refl, sym, ap, ◌∙◌, arith}
 use Rattle.std.specs.List.{AllByRecursion, list_any}
-use Rattle.std.proofs.lemmas.Bool.{cond-true, cond-false, false≢true, or_cases, or_parts, or_left, or_right, eqb-true, eq-eqb, ne_eqb, not_from_true, not_from_false}
-use Rattle.tb_tree.specs.Plain.{Plain}
+use Rattle.std.proofs.lemmas.Bool.{false≢true, or_cases, or_parts, or_left, or_right, eqb-true, not_from_true, not_from_false}
 use Rattle.tb_tree.specs.Numbers.{Numbered}
 use Rattle.tb_tree.proofs.lists.Alls.{all-append, all-both, all-weaker, all-map, all-flat_map, all-passing}
-use Rattle.tb_span.specs.declared.item.Axis.{Axis}
-use Rattle.tb_pattern.specs.Plain.{PlainPattern, matching, PlainEdges, no_edges, edge, nodes_in}
-use Rattle.tb_pattern.specs.Witness.{Witness, witness, Offers, no_offers, offer, Witnesses, no_witnesses, then_witness, together, each_alone, offered}
+use Rattle.tb_pattern.specs.Plain.{matching, PlainEdges, no_edges, edge, nodes_in}
+use Rattle.tb_pattern.specs.Witness.{Witness, witness, offer, together, each_alone, offered}
 use Rattle.tb_pattern.specs.declared.pattern.Mark.{Mark}
 use Rattle.tb_pattern.specs.declared.pattern.Mark.TheVariants.{One, Optional, Some, Any}
 use Rattle.tb_twig.specs.Branches.{Branch, branches, axis_of}

@@ -1,26 +1,24 @@
 -- Rows that grow edge by edge, from the first on, are those of the definition by numbers.
-use Rattle.std.proofs.Common.{◌≡◌, ℕ, zero, suc, ◌+◌, ◌<◌, ◌≤◌, ◌^◌, List, [], ◌∷◌, ◌++◌, length, take, drop, get_or, map, flat_map, refl, sym, ap, ap₂, ◌∙◌, subst, arith, rules, append-nil, append_assoc}
+use Rattle.std.proofs.Common.{◌≡◌, ℕ, ◌+◌, ◌<◌, ◌≤◌, List, [], ◌∷◌, ◌++◌, length, take, drop, get_or, map, flat_map, refl, sym, ap, ap₂, ◌∙◌, arith, rules, append-nil}
 use Rattle.std.proofs.lemmas.List.{map-append, map-id, drop_more, drop_all, take_more}
 use Rattle.std.proofs.lemmas.List.Concat.{flat_map-append}
-use Rattle.std.proofs.lemmas.List.Folds.{flat_map-map}
 use Rattle.std.proofs.lemmas.Simd.{map-map}
 use Rattle.tb_tree.specs.Plain.{Plain}
-use Rattle.tb_tree.proofs.lists.Maps.{map-alike, map-flat_map}
+use Rattle.tb_tree.proofs.lists.Maps.{map-alike}
 use Rattle.tb_span.specs.declared.item.Axis.{Axis}
-use Rattle.tb_pattern.specs.Plain.{PlainPattern, matching, PlainEdges, no_edges, edge, PlainEdge, edges, nodes_in}
-use Rattle.tb_pattern.specs.View.{edge_of, pattern_at, edges_of}
-use Rattle.tb_pattern.specs.Witness.{Witness, witness, Offers, no_offers, offer, Witnesses, no_witnesses, then_witness, together, each_alone, offered}
+use Rattle.tb_pattern.specs.Plain.{PlainPattern, matching, PlainEdges, edge, PlainEdge, nodes_in}
+use Rattle.tb_pattern.specs.View.{edge_of, edges_of}
+use Rattle.tb_pattern.specs.Witness.{witness, Offers, no_offers, offer, Witnesses, no_witnesses, then_witness, together, each_alone, offered}
 use Rattle.tb_pattern.specs.declared.pattern.Mark.{Mark}
 use Rattle.tb_pattern.specs.declared.pattern.Mark.TheVariants.{One, Optional, Some, Any}
 use Rattle.tb_pattern.specs.declared.pattern.Edge.{Edge, out-Edge, the_lemmas}
-use Rattle.tb_pattern.specs.declared.pattern.PNode.{PNode, out-PNode}
+use Rattle.tb_pattern.specs.declared.pattern.PNode.{out-PNode}
 use Rattle.tb_pattern.specs.declared.witness.Witness as code
 use Rattle.tb_twig.specs.Branches.{inside, below_of}
 use Rattle.tb_twig.specs.Links.{run, built_by}
-use Rattle.tb_twig.specs.Seen.{offers_of, seen, row_seen}
+use Rattle.tb_twig.specs.Seen.{seen, row_seen}
 use Rattle.tb_twig.specs.Grown.{offers_by, with_each, grown}
 use Rattle.tb_twig.specs.declared.link.Link.{Link}
-use Rattle.tb_twig.proofs.LinkLaws.{flat_map-alike}
 
 -- one offer row behind another
 abbrev pub after : Offers → Offers → Offers

@@ -1,7 +1,7 @@
 -- Links in the order of their upper nodes: those of one node stand behind each other.
-use Rattle.std.proofs.Common.{◌≡◌, ℕ, zero, suc, ◌+◌, ◌<◌, ◌≤◌, Bool, true, false, cond, ◌&&◌, nat_eq, ◌⊎◌, inl, inr, List, [], ◌∷◌, ◌++◌, All, length, take, drop, get_or, map, filter, flat_map, refl, sym, ap, ap₂, ◌∙◌, subst, arith, take-append-drop, length-drop}
+use Rattle.std.proofs.Common.{◌≡◌, ℕ, zero, suc, ◌+◌, ◌<◌, ◌≤◌, Bool, true, false, cond, ◌&&◌, nat_eq, ◌⊎◌, inl, inr, List, [], ◌∷◌, ◌++◌, length, take, drop, get_or, map, filter, flat_map, refl, sym, ap, ◌∙◌, subst, arith, take-append-drop, length-drop}
 use Rattle.std.specs.List.{AllByRecursion, prefix_len}
-use Rattle.std.specs.List.Sorted.{IsPartitionPoint, IsNonDecreasingBy}
+use Rattle.std.specs.List.Sorted.{IsPartitionPoint}
 use Rattle.std.proofs.lemmas.Bool.{cond-true, cond-false, cases_eq, cases_lt, eq-eqb, ne_eqb}
 use Rattle.std.proofs.lemmas.List.{get_or-take, get_or-drop, length-take-le}
 use Rattle.std.proofs.lemmas.List.Elements.{filter-append, recursion_from_All, All-from_get_or}
@@ -29,9 +29,10 @@ Rises (l ∷ ls) = AllByRecursion (NotBefore l.above) ls × Rises ls
 
 rises-from : (ls : List Link) → IsRising ls → Rises ls
 rises-from [] rise = tt
-rises-from (l ∷ ls) rise =
-    (recursion_from_All (NotBefore l.above) ls (λ k d less. rise 0 (suc k) d (omega arith) (omega (arith, less))),
-    rises-from ls (λ i j d low less. rise (suc i) (suc j) d (omega (arith, low)) (omega (arith, less))))
+rises-from (l ∷ ls) rise = (
+  recursion_from_All (NotBefore l.above) ls (λ k d less. rise 0 (suc k) d (omega arith) (omega (arith, less))),
+  rises-from ls (λ i j d low less. rise (suc i) (suc j) d (omega (arith, low)) (omega (arith, less))),
+)
 
 at-least : (n : ℕ) (ls : List Link) → AllByRecursion (NotBefore n) ls → (j : ℕ) (d : Link) → j < length ls → n ≤ (get_or ls j d).above
 at-least n [] all j d less = absurd (omega (arith, less))
@@ -53,6 +54,7 @@ first-run n (l ∷ ls) rise low = at (cases_eq l.above n) (first-run n ls rise.1
     none : (n < l.above) → (xs : List Link) → AllByRecursion (NotBefore l.above) xs → leading_from n xs ≡ []
     none more [] all = refl
     none more (x ∷ xs) all = filter-skip (λ (m : Link). nat_eq m.above n) x xs (ne_eqb x.above n (λ g. omega (arith, g, more, all.0))) ∙ none more xs all.1
+
     at : (l.above ≡ n) ⊎ (l.above ≡ n → ⊥) → take (prefix_len (λ (m : Link). nat_eq m.above n) ls) ls ≡ leading_from n ls
         → take (prefix_len (λ (m : Link). nat_eq m.above n) (l ∷ ls)) (l ∷ ls) ≡ leading_from n (l ∷ ls)
     at (inl is) rest =
@@ -86,6 +88,7 @@ leads-at n ls i d point rise within = at (cases_eq (get_or ls i d).above n)
     none : ((get_or ls i d).above ≡ n → ⊥) → (k : ℕ) → k < length ls → (k < i) ⊎ (i ≤ k) → nat_eq (get_or ls k d).above n ≡ false
     none ne k less (inl before) = ne_eqb (get_or ls k d).above n (λ g. omega (arith, g, point.0 k d (omega arith) before))
     none ne k less (inr behind) = ne_eqb (get_or ls k d).above n (λ g. omega (arith, g, ne, point.1 i d (omega arith) within, rise i k d behind less))
+
     at : ((get_or ls i d).above ≡ n) ⊎ ((get_or ls i d).above ≡ n → ⊥) → nat_eq (get_or ls i d).above n ≡ leads_from ls n
     at (inl is) = let t : nat_eq (get_or ls i d).above n ≡ true = eq-eqb (get_or ls i d).above n is in t ∙ sym (list_any_at (λ (l : Link). nat_eq l.above n) ls i d within t)
     at (inr ne) =
@@ -133,10 +136,11 @@ all-rise f m [] count = (tt, tt)
 all-rise f m (r ∷ rs) count =
     let others = flat_map (λ (s : Row). lead s.number (f s)) rs in
     let rest = all-rise f (m + 1) rs count.1 in
-    let behind : AllByRecursion (NotBefore r.number) others = all-weaker (NotBefore (m + 1)) (NotBefore r.number) others (λ l low. omega (arith, low, count.0)) rest.1 in
-    (rises-append (lead r.number (f r)) others (lead-rises r.number (f r)) rest.0 (lead-all (λ l. AllByRecursion (NotBefore l.above) others) r.number (f r) (λ k. behind)),
-    all-append (NotBefore m) (lead r.number (f r)) others (lead-all (NotBefore m) r.number (f r) (λ k. omega (arith, count.0)))
-    (all-weaker (NotBefore (m + 1)) (NotBefore m) others (λ l low. omega (arith, low)) rest.1))
+    let behind : AllByRecursion (NotBefore r.number) others = all-weaker (NotBefore (m + 1)) (NotBefore r.number) others (λ l low. omega (arith, low, count.0)) rest.1 in (
+      rises-append (lead r.number (f r)) others (lead-rises r.number (f r)) rest.0 (lead-all (λ l. AllByRecursion (NotBefore l.above) others) r.number (f r) (λ k. behind)),
+      all-append (NotBefore m) (lead r.number (f r)) others (lead-all (NotBefore m) r.number (f r) (λ k. omega (arith, count.0)))
+          (all-weaker (NotBefore (m + 1)) (NotBefore m) others (λ l low. omega (arith, low)) rest.1),
+    )
 
 pub links-rise : (root : Plain) (axis : Axis) (p : Numbered → Numbered → Bool) → IsRising (links_of axis p (table root))
 links-rise root axis p =

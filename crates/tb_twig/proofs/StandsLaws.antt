@@ -1,20 +1,20 @@
 -- What joins of some of the edges, in whatever order, know of a document: lists of nodes that may matter and pairs of
 -- them. A join of one more edge keeps that, however it narrows the lists of its two nodes, as long as no node
 -- is lost that matters; when all edges are done the rows that are built from the pairs are the naive ones.
-use Rattle.std.proofs.Common.{◌≡◌, ℕ, zero, suc, ◌+◌, ◌<◌, ◌≤◌, Bool, true, false, cond, ◌&&◌, nat_eq, not, ◌⊎◌, inl, inr, List, [], ◌∷◌, ◌++◌, length, get_or, map, filter, flat_map, refl, sym, ap, ap₂, ◌∙◌, subst, arith, length-append}
+use Rattle.std.proofs.Common.{◌≡◌, ℕ, zero, suc, ◌+◌, ◌<◌, ◌≤◌, Bool, true, false, cond, ◌&&◌, nat_eq, not, ◌⊎◌, inl, inr, List, length, get_or, map, flat_map, refl, sym, ap, ◌∙◌, subst, arith}
 use Rattle.std.specs.List.{AllByRecursion, list_any}
-use Rattle.std.proofs.lemmas.Bool.{cond-true, cond-false, false≢true, and_parts, and_from, cases_Bool, cases_eq, true_from_ne_false, false_from_ne_true, not_from_false, eq-eqb, ne_eqb, eqb-true}
-use Rattle.tb_tree.specs.Plain.{Plain, kids_of}
+use Rattle.std.proofs.lemmas.Bool.{cond-true, cond-false, false≢true, and_parts, and_from, cases_eq, false_from_ne_true, not_from_false, eq-eqb, ne_eqb, eqb-true}
+use Rattle.tb_tree.specs.Plain.{kids_of}
 use Rattle.tb_tree.specs.Numbers.{Numbered}
 use Rattle.tb_tree.proofs.lists.Alls.{all-both, all-weaker}
 use Rattle.tb_span.specs.declared.item.Axis.{Axis}
 use Rattle.tb_pattern.specs.declared.pattern.Mark.{Mark}
 use Rattle.tb_pattern.specs.Plain.{PlainPattern, matching, PlainEdges, no_edges, edge, nodes_in}
-use Rattle.tb_pattern.specs.Witness.{witness, Witnesses, offer, offered, witnesses_at, choices}
+use Rattle.tb_pattern.specs.Witness.{Witnesses, offer, offered, witnesses_at, choices}
 use Rattle.tb_twig.specs.Branches.{Branch, branches, branches_of, branch_at, no_branch, fits, axis_of}
 use Rattle.tb_twig.proofs.NumberedLaws.{later}
 use Rattle.tb_twig.specs.Narrowed.{is_met}
-use Rattle.tb_twig.proofs.HasLaws.{has, has-map, has-none, has-flat_map, has-product, has-offered, met-more, any-more}
+use Rattle.tb_twig.proofs.HasLaws.{has, has-none, has-flat_map, has-product, has-offered, met-more, any-more}
 use Rattle.tb_twig.proofs.BuiltLaws.{built, AllFrom, from-append, from-all, at-place, length-branches, parts-of, Closed, Sound, Complete, has-witnesses, has-built, built-is}
 
 -- the document node has a row, or the node has a witness below that pattern node
@@ -50,14 +50,15 @@ linked-from : (alive : ℕ → Numbered → Bool) (n e : ℕ) (es : PlainEdges) 
 linked-from alive n e no_edges top all = tt
 linked-from alive n e (edge axis mark (matching test conds whole below) others) top all =
     let to = matching test conds whole below in
-    let p = parts-of (Lives alive) n e axis mark to below others all in
-    (λ v living.
-    ap (is_met mark) (sym (has-flat_map (witnesses_at to) (axis_of axis v))) ∙ sym (has-offered mark (flat_map (witnesses_at to) (axis_of axis v)))
-    ∙ (choices-parts axis mark to others v (top v living)).1,
-    from-append (IsLinked alive) (e + 1) (e + 1 + nodes_in below) (branches (e + 1) (e + 1) below) (branches n (e + 1 + nodes_in below) others) (omega (arith, length-branches (e + 1) (e + 1) below))
-    (linked-from alive (e + 1) (e + 1) below
-    (λ v living. (and_parts (fits to v) (has (choices below v.number (kids_of v.node))) (sym (has-witnesses to below v (fits to v) refl refl) ∙ p.this v living)).1) p.inside)
-    (linked-from alive n (e + 1 + nodes_in below) others (λ v living. (choices-parts axis mark to others v (top v living)).0) p.behind))
+    let p = parts-of (Lives alive) n e axis mark to below others all in (
+      λ v living.
+          ap (is_met mark) (sym (has-flat_map (witnesses_at to) (axis_of axis v))) ∙ sym (has-offered mark (flat_map (witnesses_at to) (axis_of axis v)))
+          ∙ (choices-parts axis mark to others v (top v living)).1,
+      from-append (IsLinked alive) (e + 1) (e + 1 + nodes_in below) (branches (e + 1) (e + 1) below) (branches n (e + 1 + nodes_in below) others) (omega (arith, length-branches (e + 1) (e + 1) below))
+          (linked-from alive (e + 1) (e + 1) below
+          (λ v living. (and_parts (fits to v) (has (choices below v.number (kids_of v.node))) (sym (has-witnesses to below v (fits to v) refl refl) ∙ p.this v living)).1) p.inside)
+          (linked-from alive n (e + 1 + nodes_in below) others (λ v living. (choices-parts axis mark to others v (top v living)).0) p.behind),
+    )
 
 lives-next : (es : PlainEdges) (f : ℕ) (v : Numbered) → lives es (f + 1) v ≡ has (witnesses_at (branch_at es f).to v)
 lives-next es f v = ap (λ n. lives es n v) (let g : f + 1 ≡ suc f = omega arith in g)
@@ -184,6 +185,7 @@ module _ (In : Numbered → Type 0) (closed : Closed In) (es : PlainEdges) (top 
           (λ v. has (witnesses_at (branch_at es f).to v) ≡ true → lists' (f + 1) v ≡ true) (axis_of (branch_at es f).axis u)
           (λ v k some. stays Done lists lists' pairs st e e_less narrows (f + 1) (λ g. ne (omega (arith, g))) v k.1 (k.0 some) (lives-next es f v ∙ some))
           (all-both (λ v. has (witnesses_at (branch_at es f).to v) ≡ true → lists (f + 1) v ≡ true) In (axis_of (branch_at es f).axis u) (st.reached f less u here listed) (closed (branch_at es f).axis u here))
+
       found-by : (f : ℕ) → f < length (branches_of es) → Done f ⊎ (f ≡ e) → (u : Numbered) → In u → lists (branch_at es f).up u ≡ true → (f ≡ e) ⊎ (f ≡ e → ⊥)
           → AllByRecursion (λ v. lists' (f + 1) v ≡ true → pairs' f u v ≡ true) (axis_of (branch_at es f).axis u)
       found-by f less is_done u here listed (inl is) =
@@ -196,6 +198,7 @@ module _ (In : Numbered → Type 0) (closed : Closed In) (es : PlainEdges) (top 
           (λ v k kept. joins.others f ne u v ∙ k.0 (narrows.less (f + 1) v k.1 kept))
           (all-both (λ v. lists (f + 1) v ≡ true → pairs f u v ≡ true) In (axis_of (branch_at es f).axis u) (st.found f less is_done u here listed) (closed (branch_at es f).axis u here))
       found-by f less (inr is) u here listed (inr ne) = absurd (ne is)
+
       right-by : (f : ℕ) → f < length (branches_of es) → Done f ⊎ (f ≡ e) → (f ≡ e) ⊎ (f ≡ e → ⊥) → Sound In pairs' f (branch_at es f)
       right-by f less is_done (inl is) =
           subst (λ n. Sound In pairs' n (branch_at es n)) (sym is)
@@ -262,6 +265,7 @@ module _ (In : Numbered → Type 0) (closed : Closed In) (es : PlainEdges) (top 
       dropped : (here is whole : Bool) → cond here (is && whole) whole ≡ true → whole ≡ true
       dropped true is whole e = (and_parts is whole e).1
       dropped false is whole e = e
+
       kept : (here is whole : Bool) → (here ≡ true → is ≡ true) → whole ≡ true → cond here (is && whole) whole ≡ true
       kept true is whole f e = and_from is whole (f refl) e
       kept false is whole f e = e
@@ -273,6 +277,7 @@ module _ (In : Numbered → Type 0) (closed : Closed In) (es : PlainEdges) (top 
     where
       sound : AllFrom (Sound In pairs) 0 (branches_of es)
       sound = from-zero (Sound In pairs) (branches_of es) (λ e less. st.right e less (done e less))
+
       complete : AllFrom (Complete In lists pairs) 0 (branches_of es)
       complete = from-zero (Complete In lists pairs) (branches_of es) (λ e less u here listed.
           all-weaker (λ v. (has (witnesses_at (branch_at es e).to v) ≡ true → lists (e + 1) v ≡ true) × (lists (e + 1) v ≡ true → pairs e u v ≡ true))
@@ -280,6 +285,7 @@ module _ (In : Numbered → Type 0) (closed : Closed In) (es : PlainEdges) (top 
           (λ v k some. (k.0 some, k.1 (k.0 some)))
           (all-both (λ v. has (witnesses_at (branch_at es e).to v) ≡ true → lists (e + 1) v ≡ true) (λ v. lists (e + 1) v ≡ true → pairs e u v ≡ true) (axis_of (branch_at es e).axis u)
           (st.reached e less u here listed) (st.found e less (done e less) u here listed)))
+
       at : (b : Bool) → lists 0 top ≡ b → built pairs 0 es top ≡ choices es top.number (kids_of top.node)
       at true e = built-is In closed lists pairs 0 0 es sound complete top top_in e
       at false e =

@@ -1,11 +1,11 @@
 -- The first lists as a function of the rows of the document.
-use Rattle.std.proofs.Common.{◌≡◌, ℕ, zero, suc, ◌+◌, ◌<◌, ◌≤◌, Bool, true, false, cond, not, ◌&&◌, ◌||◌, nat_eq, ◌⊎◌, inl, inr, List, [], ◌∷◌, All, length, get_or, map, filter, refl, sym, ap, ap₂, ◌∙◌, subst, arith}
-use Rattle.std.specs.List.{AllByRecursion, list_any}
+use Rattle.std.proofs.Common.{◌≡◌, ◌≤◌, Bool, true, false, cond, not, ◌&&◌, nat_eq, inl, inr, List, [], ◌∷◌, length, map, filter, refl, sym, ap, ◌∙◌, subst, arith}
+use Rattle.std.specs.List.{list_any}
 use Rattle.std.proofs.lemmas.Bool.{and_right, ne_eqb, eq-eqb, or_left, or_right, not_from_false}
 use Rattle.std.proofs.lemmas.List.{length-map}
 use Rattle.std.proofs.lemmas.List.Elements.{All-from_recursion, filter_agree}
-use Rattle.tb_tree.specs.Plain.{Plain, one}
-use Rattle.tb_tree.specs.Numbers.{Numbered, all_numbered}
+use Rattle.tb_tree.specs.Plain.{Plain}
+use Rattle.tb_tree.specs.Numbers.{Numbered}
 use Rattle.tb_tree.specs.Nodes.{node_at}
 use Rattle.tb_tree.specs.Meets.{meets}
 use Rattle.tb_tree.specs.Value.{value_of}
@@ -20,10 +20,10 @@ use Rattle.tb_pattern.specs.Plain.{PlainPattern, matching}
 use Rattle.tb_pattern.specs.Conditions.{all_hold}
 use Rattle.tb_pattern.specs.declared.cond.Cond.{Cond}
 use Rattle.tb_twig.specs.Branches.{test_of, fits}
-use Rattle.tb_twig.specs.Lists.{conds_of, holding, first_list}
+use Rattle.tb_twig.specs.Lists.{conds_of, first_list}
 use Rattle.tb_twig.specs.Offered.{meeting}
 use Rattle.tb_twig.proofs.OfferedLaws.{IsIn}
-use Rattle.tb_twig.proofs.TableLaws.{CountOn, count-later, table-count, Member, all-members, Of}
+use Rattle.tb_twig.proofs.TableLaws.{count-later, table-count, Member, all-members, Of}
 use Rattle.tb_twig.proofs.WholeLaws.{row-node}
 use Rattle.tb_twig.proofs.LinkLaws.{listed_by}
 

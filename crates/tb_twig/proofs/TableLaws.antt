@@ -1,5 +1,5 @@
 -- The nodes of a document by its rows: those on the axis of a node are such nodes, and numbers tell rows apart.
-use Rattle.std.proofs.Common.{◌≡◌, ℕ, ◌+◌, ◌*◌, ◌<◌, ◌≤◌, Bool, true, false, cond, nat_eq, ◌⊎◌, inl, inr, List, [], ◌∷◌, ◌++◌, length, map, filter, flat_map, refl, sym, ap, ap₂, ◌∙◌, subst, arith, append-nil}
+use Rattle.std.proofs.Common.{◌≡◌, ℕ, ◌+◌, ◌*◌, ◌<◌, ◌≤◌, cond, nat_eq, ◌⊎◌, inl, inr, List, [], ◌∷◌, ◌++◌, length, map, filter, flat_map, refl, sym, ap, ◌∙◌, subst, arith, append-nil}
 use Rattle.std.specs.List.{AllByRecursion}
 use Rattle.std.proofs.lemmas.Bool.{cond-true, cond-false, eq-eqb, ne_eqb}
 use Rattle.tb_tree.specs.Plain.{Plain, elem, attr, text, Plains, no_kids, kid, kids_of, one}
@@ -59,11 +59,12 @@ count-append n m (x ∷ xs) ys long first second = (first.0, count-append (n + 1
 
 rows-count : (clock number parent : ℕ) (at : List ℕ) (k : ℕ) (ks : Plains) → CountOn number (rows clock number parent at k ks)
 rows-count clock number parent at k no_kids = tt
-rows-count clock number parent at k (kid (elem name kids) rest) =
-    (refl,
-    count-append (number + 1) (number + 1 + counts kids) (rows (clock + 1) (number + 1) number (at ++ k ∷ []) 0 kids) (rows (clock + 2 * counts kids + 2) (number + 1 + counts kids) parent at (k + 1) rest)
-    (omega (arith, length-rows (clock + 1) (number + 1) number (at ++ k ∷ []) 0 kids))
-    (rows-count (clock + 1) (number + 1) number (at ++ k ∷ []) 0 kids) (rows-count (clock + 2 * counts kids + 2) (number + 1 + counts kids) parent at (k + 1) rest))
+rows-count clock number parent at k (kid (elem name kids) rest) = (
+  refl,
+  count-append (number + 1) (number + 1 + counts kids) (rows (clock + 1) (number + 1) number (at ++ k ∷ []) 0 kids) (rows (clock + 2 * counts kids + 2) (number + 1 + counts kids) parent at (k + 1) rest)
+      (omega (arith, length-rows (clock + 1) (number + 1) number (at ++ k ∷ []) 0 kids))
+      (rows-count (clock + 1) (number + 1) number (at ++ k ∷ []) 0 kids) (rows-count (clock + 2 * counts kids + 2) (number + 1 + counts kids) parent at (k + 1) rest),
+)
 rows-count clock number parent at k (kid (attr name value) rest) = (refl, rows-count (clock + 2) (number + 1) parent at (k + 1) rest)
 rows-count clock number parent at k (kid (text value) rest) = (refl, rows-count (clock + 2) (number + 1) parent at (k + 1) rest)
 

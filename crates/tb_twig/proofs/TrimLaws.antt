@@ -1,11 +1,9 @@
 -- Trimming as a step on lists of links, and what it keeps of a state of joins.
-use Rattle.std.proofs.Common.{◌≡◌, ℕ, zero, suc, ◌+◌, ◌-◌, ◌<◌, ◌≤◌, Bool, true, false, cond, not, ◌&&◌, nat_eq, ◌⊎◌, inl, inr, List, [], ◌∷◌, length, get_or, map, filter, set, refl, sym, ap, ap₂, ◌∙◌, subst, arith, Vec, Global}
-use Rattle.std.specs.List.{list_any}
-use Rattle.std.proofs.lemmas.Bool.{cond-true, cond-false}
+use Rattle.std.proofs.Common.{◌≡◌, ℕ, ◌-◌, true, List, set, sym, ap, ◌∙◌, Vec, Global}
+use Rattle.std.proofs.lemmas.Bool.{cond-true}
 use Rattle.std.proofs.lemmas.List.{map-set}
-use Rattle.tb_twig.specs.Narrowed.{leads_from, asks, is_met}
 use Rattle.tb_twig.specs.Links.{lists_in, links_at}
-use Rattle.tb_twig.specs.Trimmed.{laid_at, leading_on, asks_above, trim_step, trimmed}
+use Rattle.tb_twig.specs.Trimmed.{laid_at, leading_on, asks_above, trim_step}
 use Rattle.tb_twig.specs.declared.branch.Branch as code
 use Rattle.tb_twig.specs.declared.link.Link.{Link}
 

@@ -1,16 +1,15 @@
 -- Rows put together by numbers from the links of all edges are the naive witnesses.
-use Rattle.std.proofs.Common.{◌≡◌, ℕ, suc, ◌+◌, ◌*◌, ◌-◌, ◌<◌, ◌≤◌, Bool, true, false, cond, ◌&&◌, nat_eq, ◌⊎◌, inl, inr, List, [], ◌∷◌, ◌++◌, length, get_or, map, filter, flat_map, refl, sym, ap, ap₂, ◌∙◌, subst, arith}
+use Rattle.std.proofs.Common.{◌≡◌, ℕ, suc, ◌+◌, ◌*◌, ◌-◌, ◌<◌, ◌≤◌, Bool, nat_eq, inl, inr, List, [], ◌∷◌, ◌++◌, length, get_or, map, filter, flat_map, refl, sym, ap, ap₂, ◌∙◌, arith}
 use Rattle.std.specs.List.{AllByRecursion}
 use Rattle.std.proofs.lemmas.Bool.{cond-false, ne_eqb}
 use Rattle.std.proofs.lemmas.List.{map-append}
 use Rattle.std.proofs.lemmas.List.Folds.{flat_map-map}
-use Rattle.tb_tree.specs.Plain.{Plain, elem, attr, text, Plains, no_kids, kid, kids_of, one}
+use Rattle.tb_tree.specs.Plain.{Plain, elem, attr, text, Plains, no_kids, kid, one}
 use Rattle.tb_tree.specs.Numbers.{counts, Numbered}
 use Rattle.tb_tree.specs.Nodes.{nodes_of, node_at}
 use Rattle.std.proofs.lemmas.List.Elements.{All-from_recursion, All-filter}
 use Rattle.tb_tree.proofs.lists.Maps.{flat_map_same}
-use Rattle.tb_tree.proofs.lists.Alls.{all-both, all-weaker}
-use Rattle.tb_span.specs.declared.item.Axis.{Axis}
+use Rattle.tb_tree.proofs.lists.Alls.{all-weaker}
 use Rattle.tb_label.specs.Rows.{Row, rows, rows_of, document_row, table, numbered_of}
 use Rattle.tb_pattern.specs.Plain.{PlainEdges, no_edges, edge, matching, nodes_in}
 use Rattle.tb_pattern.specs.Witness.{witness, Offers, offer, offered, naive_witnesses}
@@ -18,7 +17,6 @@ use Rattle.tb_twig.specs.Branches.{Branch, branches, branches_of, branch_at, axi
 use Rattle.tb_twig.specs.Seen.{nth_node}
 use Rattle.tb_twig.specs.Links.{run, built_by}
 use Rattle.tb_twig.specs.declared.link.Link.{Link}
-use Rattle.tb_twig.proofs.NumberedLaws.{later}
 use Rattle.tb_twig.proofs.BuiltLaws.{built, AllFrom, parts-of, from-append, length-branches, Closed}
 use Rattle.tb_twig.proofs.StandsLaws.{from-zero, at-zero, Stands, all_done}
 use Rattle.tb_twig.proofs.TableLaws.{Member, Of, CountOn, count-later, member-all, table-count, closed_of, top_of}
@@ -84,10 +82,11 @@ looks-up root v (r, is, inr m) =
 -- The node above an edge has no greater number than the edge.
 up-from : (n e : ℕ) (es : PlainEdges) → n ≤ e → AllFrom (λ f s. s.up ≤ f) e (branches n e es)
 up-from n e no_edges low = tt
-up-from n e (edge axis mark (matching test conds whole below) others) low =
-    (low,
-    from-append (λ f s. s.up ≤ f) (e + 1) (e + 1 + nodes_in below) (branches (e + 1) (e + 1) below) (branches n (e + 1 + nodes_in below) others) (omega (arith, length-branches (e + 1) (e + 1) below))
-    (up-from (e + 1) (e + 1) below (omega arith)) (up-from n (e + 1 + nodes_in below) others (omega (arith, low))))
+up-from n e (edge axis mark (matching test conds whole below) others) low = (
+  low,
+  from-append (λ f s. s.up ≤ f) (e + 1) (e + 1 + nodes_in below) (branches (e + 1) (e + 1) below) (branches n (e + 1 + nodes_in below) others) (omega (arith, length-branches (e + 1) (e + 1) below))
+      (up-from (e + 1) (e + 1) below (omega arith)) (up-from n (e + 1 + nodes_in below) others (omega (arith, low))),
+)
 
 pub up-before : (es : PlainEdges) (e : ℕ) → e < length (branches_of es) → (branch_at es e).up ≤ e
 up-before es e less = at-zero (λ f s. s.up ≤ f) (branches_of es) e less (up-from 0 0 es (omega arith))

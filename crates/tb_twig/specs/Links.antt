@@ -3,7 +3,7 @@ use Rattle.std.specs.Prelude.{ℕ, ◌+◌, ◌<◌, ◌≤◌, nat_eq, List, []
 use Rattle.std.proofs.Common.{Vec, Global}
 use Rattle.std.specs.List.Sorted.{IsNonDecreasingBy}
 use Rattle.tb_tree.specs.Plain.{Plain}
-use Rattle.tb_pattern.specs.Plain.{PlainPattern, matching, PlainEdges, no_edges, edge, nodes_in}
+use Rattle.tb_pattern.specs.Plain.{matching, PlainEdges, no_edges, edge, nodes_in}
 use Rattle.tb_pattern.specs.Witness.{witness, Offers, no_offers, offer, offered}
 use Rattle.tb_twig.specs.declared.link.Link.{Link}
 

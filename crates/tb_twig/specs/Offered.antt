@@ -5,7 +5,7 @@ use Rattle.tb_tree.specs.Plain.{Plain, one}
 use Rattle.tb_tree.specs.Numbers.{Numbered, all_numbered}
 use Rattle.tb_tree.specs.Meets.{meets}
 use Rattle.tb_tree.specs.declared.node_test.Test.{Test}
-use Rattle.tb_pattern.specs.Plain.{PlainPattern, matching, PlainEdges, no_edges, edge, nodes_in}
+use Rattle.tb_pattern.specs.Plain.{matching, PlainEdges, no_edges, edge, nodes_in}
 use Rattle.tb_pattern.specs.Witness.{Witness, witness, Offers, no_offers, offer, Witnesses, no_witnesses, then_witness, naive_witnesses}
 use Rattle.tb_twig.specs.Branches.{branch_at, test_of}
 

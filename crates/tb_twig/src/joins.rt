@@ -58,7 +58,15 @@ pub fn join_edge<R: Threads + Sync, G: Gate>(
         ≡ map (λ t. t.size) joins.old.trace.items ++ length (node_list (map items_in joins.old.lists.items) (e + 1)) ∷ []) }
 {
     let branch = joins.laid[e];
-    let (narrowed, trace) = joined_at(rt, alloc, &branch, joins.lists.as_slice(), e, settings, gate)?;
+    let (narrowed, trace) = joined_at(
+        rt,
+        alloc,
+        &branch,
+        joins.lists.as_slice(),
+        e,
+        settings,
+        gate,
+    )?;
     joins.trace.push(trace)?;
     let Narrowed {
         links,

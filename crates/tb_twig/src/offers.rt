@@ -11,11 +11,7 @@ use tb_pattern::{Mark, Offer, Witness};
 use tb_tree::Items;
 
 /// What an edge of this mark offers, where these witnesses match below it.
-pub fn offered(
-    alloc: Global,
-    mark: Mark,
-    witnesses: Vec<Witness>,
-) -> Result<Vec<Offer>, AllocError>
+pub fn offered(alloc: Global, mark: Mark, witnesses: Vec<Witness>) -> Result<Vec<Offer>, AllocError>
     ensures { IfOk result (λ offers. offers.items ≡ offers_by mark witnesses.items) }
 {
     match mark {

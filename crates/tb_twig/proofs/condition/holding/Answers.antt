@@ -1,5 +1,5 @@
 -- The prepared conditions say what the conditions say.
-use Rattle.std.proofs.Common.{ap, ◌∙◌}
+use Rattle.std.proofs.Common.{◌∙◌}
 use Rattle.tb_tree.specs.View.{plain_of}
 use Rattle.tb_twig.proofs.LayoutLaws.{holding-prepared}
 use Rattle.tb_twig.proofs.condition.holding.Goals as goal

@@ -1,5 +1,5 @@
 -- The links give the rows.
-use Rattle.std.proofs.Common.{length, map, sym, ap, ap₂, ◌∙◌, arith}
+use Rattle.std.proofs.Common.{length, map, ap, ap₂, ◌∙◌, arith}
 use Rattle.tb_tree.specs.View.{plain_of}
 use Rattle.tb_pattern.specs.Plain.{nodes_in}
 use Rattle.tb_pattern.specs.View.{edges_of}

@@ -1,12 +1,12 @@
 -- Each edge brings itself and all below it.
-use Rattle.std.proofs.Common.{◌≡◌, ◌+◌, ◌++◌, length, map, refl, sym, ap, ◌∙◌, arith}
+use Rattle.std.proofs.Common.{◌+◌, ◌++◌, length, map, refl, ap, ◌∙◌, arith}
 use Rattle.std.proofs.lemmas.List.{length_push}
 use Rattle.tb_tree.specs.View.{plain_of}
 use Rattle.tb_pattern.specs.Plain.{nodes_in}
 use Rattle.tb_pattern.specs.View.{edge_of, edges_of}
 use Rattle.tb_twig.specs.Branches.{Branch, branch_to, branches, below_of}
 use Rattle.tb_twig.specs.Lists.{items_in, branch_of, first_list}
-use Rattle.tb_twig.proofs.RowsLaws.{drop-edge, turn-count, turn-room, below-edge}
+use Rattle.tb_twig.proofs.RowsLaws.{drop-edge, turn-count, below-edge}
 use Rattle.tb_twig.proofs.LayoutLaws.{laid-length, lay-next, lay-inner}
 use Rattle.tb_twig.proofs.layout.+layout.Goals as goal
 

@@ -1,10 +1,10 @@
 -- The list of a test, or what conditions leave of it.
-use Rattle.std.proofs.Common.{sym, ap, ◌∙◌, subst, arith, length}
+use Rattle.std.proofs.Common.{sym, ap, ◌∙◌, length}
 use Rattle.std.proofs.lemmas.Bool.{eqb-true}
 use Rattle.std.proofs.lemmas.List.{nil_from_length}
 use Rattle.tb_tree.specs.View.{plain_of}
 use Rattle.tb_pattern.specs.declared.pattern.PNode.{out-PNode}
-use Rattle.tb_twig.proofs.LayoutLaws.{list-plain, list-kept, listed-within, within-list}
+use Rattle.tb_twig.proofs.LayoutLaws.{list-plain, within-list}
 use Rattle.tb_twig.proofs.layout.first_list.Goals as goal
 
 pub returns-then-is_empty : goal.returns-then-is_empty

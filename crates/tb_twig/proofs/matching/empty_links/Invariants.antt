@@ -1,4 +1,4 @@
-use Rattle.std.proofs.Common.{◌≡◌, List, [], replicate}
+use Rattle.std.proofs.Common.{◌≡◌, [], replicate}
 use Rattle.tb_twig.specs.Links.{lists_in}
 use Rattle.tb_twig.proofs.matching.empty_links.Given as goal
 

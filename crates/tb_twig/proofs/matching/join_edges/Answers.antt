@@ -4,10 +4,8 @@ use Rattle.std.proofs.lemmas.List.{length-map}
 use Rattle.tb_tree.specs.View.{plain_of}
 use Rattle.tb_pattern.specs.View.{edges_of}
 use Rattle.tb_plan.specs.Orders.{IsOrderOf}
-use Rattle.tb_twig.specs.Branches.{branches_of}
-use Rattle.tb_twig.specs.Lists.{items_in, branch_of}
+use Rattle.tb_twig.specs.Lists.{items_in}
 use Rattle.tb_twig.specs.Links.{lists_in}
-use Rattle.tb_twig.specs.Trimmed.{trimmed}
 use Rattle.tb_twig.specs.Calls.{AreTraced}
 use Rattle.tb_twig.specs.declared.link.Link.{Link}
 use Rattle.tb_twig.proofs.MatchingLaws.{holds-first, order-within, edge-within, edge-upper, edge-joinable, edge-above, edge-below, edge-few, edge-joined, turn-holds, end-holds, trim-above, all-rising, matched-links, matched-many, matched-trace}

@@ -1,5 +1,5 @@
 -- There are fewer than 2^32 edges.
-use Rattle.std.proofs.Common.{◌≡◌, length, ap, arith}
+use Rattle.std.proofs.Common.{length, ap, arith}
 use Rattle.tb_pattern.specs.Plain.{nodes_in}
 use Rattle.tb_pattern.specs.View.{edges_of}
 use Rattle.tb_plan.proofs.CountLaws.{count-nodes}

@@ -1,11 +1,11 @@
 -- Rows grow edge by edge, and witnesses link by link.
-use Rattle.std.proofs.Common.{◌≡◌, ℕ, ◌+◌, ◌++◌, take, map, get_or, refl, sym, ap, ◌∙◌, arith}
+use Rattle.std.proofs.Common.{◌+◌, ◌++◌, map, get_or, refl, ap, ◌∙◌, arith}
 use Rattle.std.specs.List.{flat_map}
 use Rattle.std.proofs.lemmas.List.{take_all}
 use Rattle.tb_pattern.specs.View.{edge_of, edges_of}
 use Rattle.tb_pattern.specs.Witness.{witness}
 use Rattle.tb_twig.specs.Branches.{below_of}
-use Rattle.tb_twig.specs.Links.{links_at, leading_from, run, built_by}
+use Rattle.tb_twig.specs.Links.{links_at, leading_from, built_by}
 use Rattle.tb_twig.specs.Seen.{seen}
 use Rattle.tb_twig.specs.declared.link.Link.{Link}
 use Rattle.tb_twig.specs.Narrowed.{link}
@@ -24,10 +24,11 @@ rows_below-overflow_add-at t c =
 
 pub rows_below-edges-preserved : goal.rows_below-edges-preserved
 rows_below-edges-preserved t c =
-    let here = drop-edge c.args.edges.now c.edges.edge-index c.edge-item.result c.edges-test.true c.edge-item.is in
-    (turn-count c.args.edges.now c.edges.edge-index c.edge-item.result c.edges.at c.size_below.result _ here c.size_below.ensures c.edges.invariant.0,
+    let here = drop-edge c.args.edges.now c.edges.edge-index c.edge-item.result c.edges-test.true c.edge-item.is in (
+      turn-count c.args.edges.now c.edges.edge-index c.edge-item.result c.edges.at c.size_below.result _ here c.size_below.ensures c.edges.invariant.0,
       λ look. rows-turn look (links_at c.args.links.now) c.edges.at c.size_below.result c.args.n c.edges.edge-index c.args.edges.now c.edge-item.result c.edges.rows.items _ c.in_ok-witnesses.witnesses.items c.in_ok-offers.offers.items c.in_ok-rows-2.rows.items _
-          here c.size_below.ensures (mark-edge c.edge-item.result) (c.in_ok-witnesses.ensures look) c.in_ok-offers.ensures c.in_ok-rows-2.ensures (c.edges.invariant.1 look))
+          here c.size_below.ensures (mark-edge c.edge-item.result) (c.in_ok-witnesses.ensures look) c.in_ok-offers.ensures c.in_ok-rows-2.ensures (c.edges.invariant.1 look),
+    )
 
 pub rows_below-returns : goal.rows_below-returns
 rows_below-returns t c =

@@ -1,4 +1,4 @@
-use Rattle.std.proofs.Common.{◌≡◌, ◌≤◌, ℕ, length, All}
+use Rattle.std.proofs.Common.{◌≡◌, ◌≤◌, length, All}
 use Rattle.tb_twig.specs.Links.{IsRising, lists_in}
 use Rattle.tb_twig.specs.Trimmed.{trimmed}
 use Rattle.tb_twig.proofs.trim.trim.Given as goal
