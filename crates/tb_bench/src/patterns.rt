@@ -5,11 +5,10 @@ ghost use Rattle.tb_pattern.specs.View.{edges_of};
 ghost use Rattle.tb_plan.specs.Orders.{edge_count, IsOrderOf};
 
 use std::alloc::{AllocError, Global};
-use std::env;
-use std::io;
 use std::process::ExitCode;
 use std::thread::Threads;
 use std::time::Instant;
+use std::{env, io};
 use tb_edge::OpenGate;
 use tb_label::Store;
 use tb_parjoin::{OrderRule, Settings};
@@ -41,12 +40,28 @@ pub fn time_match<R: Threads + Sync>(
         return Ok(ExitCode::FAILURE);
     };
     let start = Instant::now(rt)?;
-    let joined = join_edges(threads, rt.alloc(), &pattern, store, &order, &SETTINGS, &OpenGate)?;
+    let joined = join_edges(
+        threads,
+        rt.alloc(),
+        &pattern,
+        store,
+        &order,
+        &SETTINGS,
+        &OpenGate,
+    )?;
     let took = start.elapsed(rt)?;
     drop(joined);
     eprintln!(rt; "joins {}", took.as_nanos())?;
     let start = Instant::now(rt)?;
-    let found = witnesses(threads, rt.alloc(), &pattern, store, &order, &SETTINGS, &OpenGate)?;
+    let found = witnesses(
+        threads,
+        rt.alloc(),
+        &pattern,
+        store,
+        &order,
+        &SETTINGS,
+        &OpenGate,
+    )?;
     let took = start.elapsed(rt)?;
     eprintln!(rt; "witnesses {}", took.as_nanos())?;
     println!(rt; "rows {}", found.rows.len())?;
@@ -111,9 +126,13 @@ fn rows_sum(rows: &[Witness]) -> u64 {
 fn with_offers(start: u64, offers: &[Offer]) -> u64 {
     let mut sum = start;
     'offers: for offer in offers {
-        sum = sum.wrapping_mul(31).wrapping_add(offer.as_slice().len() as u64);
+        sum = sum
+            .wrapping_mul(31)
+            .wrapping_add(offer.as_slice().len() as u64);
         'witnesses: for witness in offer.as_slice() {
-            sum = sum.wrapping_mul(31).wrapping_add(u64::from(witness.node.index()));
+            sum = sum
+                .wrapping_mul(31)
+                .wrapping_add(u64::from(witness.node.index()));
             sum = with_offers(sum, witness.offers.as_slice());
         }
     }
