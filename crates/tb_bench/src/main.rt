@@ -1,7 +1,8 @@
 //! `tb_bench`: times the engine's calls one by one, for `bench/`.
 //!
 //! It reads a document on standard input, labels it, and joins its elements `part` with its elements `item`.
-//! With the word `join` it times one join of the elements that two further words name. With the word `script` it
+//! With the word `join` it times one join of the elements that two further words name, with the word `match` the
+//! pattern and the order of edges of two further words. With the word `script` it
 //! reads a script instead, and puts its commands in order. What it found goes to standard output, and how long
 //! each call took, in nanoseconds, to standard error.
 #![tactic(auto)]
@@ -24,9 +25,11 @@ use tb_stackjoin::By;
 use tb_tree::{Bytes, Kind, Test, Tree};
 
 mod join;
+mod patterns;
 mod script;
 
 use join::{is_word, time_lists, time_one_join};
+use patterns::time_match;
 use script::time_script;
 
 /// Bytes of a document or a script at most.
@@ -48,6 +51,10 @@ fn main(rt: HostRuntime) -> io::Result<ExitCode> {
         let store = time_label(&rt, tree)?;
         time_one_join(&rt, &store)?;
         return Ok(ExitCode::SUCCESS);
+    }
+    if is_word(&rt, 1, "match")? {
+        let store = time_label(&rt, tree)?;
+        return time_match(&rt, &rt, &store);
     }
     tell_text(&rt, &tree)?;
     let store = time_label(&rt, tree)?;

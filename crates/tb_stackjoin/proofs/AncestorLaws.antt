@@ -1,11 +1,11 @@
 -- A join by ancestor from its seed to its end: the pairs of all reaches are the pairs by ancestor.
-use Rattle.std.proofs.Common.{◌≡◌, ℕ, ◌+◌, ◌-◌, ◌<◌, ◌≤◌, ◌⊎◌, inl, inr, true, false, nat_lt, nat_eq, List, [], ◌++◌, length, get_or, map, All, filter, flat_map, refl, sym, ap, ◌∙◌, subst, arith, append-nil, append_assoc, length-append, map-id}
+use Rattle.std.proofs.Common.{◌≡◌, ℕ, ◌+◌, ◌-◌, ◌<◌, ◌≤◌, ◌⊎◌, inl, inr, true, false, nat_lt, nat_eq, List, [], ◌++◌, length, get_or, map, All, filter, flat_map, refl, sym, ap, ◌∙◌, arith, append-nil, append_assoc, map-id}
 use Rattle.std.specs.List.{range_with_len}
 use Rattle.std.proofs.lemmas.Bool.{cases_lt, lt-ltb, ltb-false, eq-eqb, and_from, false_from_ne_true, false≢true}
 use Rattle.std.proofs.lemmas.List.{length-map, get_or-map}
 use Rattle.std.proofs.lemmas.Simd.{map-map}
 use Rattle.std.proofs.lemmas.List.Concat.{flat_map-append}
-use Rattle.std.proofs.lemmas.List.Elements.{All-map, All-append}
+use Rattle.std.proofs.lemmas.List.Elements.{All-nil, All-map, All-append}
 use Rattle.std.proofs.lemmas.List.FromFn.{length-range_with_len}
 use Rattle.std.proofs.lemmas.List.Folds.{flat_map-map}
 use Rattle.std.proofs.lemmas.List.Sums.{length-filter, count_by-le-length}
@@ -13,28 +13,17 @@ use Rattle.tb_span.specs.Lists.{AreJoinable, is_related}
 use Rattle.tb_span.specs.Seeds.{label_at, places, Range, range, places_in, is_open_at, IsSeed}
 use Rattle.tb_span.specs.declared.item.Axis.TheVariants.{Descendant}
 use Rattle.tb_span.specs.declared.item.Item.{Item}
+use Rattle.tb_span.specs.declared.item.Pair.{Pair}
 use Rattle.tb_tree.proofs.lists.Filters.{filter_all, filter_none}
 use Rattle.tb_tree.proofs.lists.Maps.{flat_map_same, flat_map_none, flat_map-filter}
 use Rattle.tb_tree.proofs.lists.Ranges.{All-range, range_none, range_split, map-range}
 use Rattle.tb_stackjoin.specs.Pairs.{pair, below, pairs_under, pairs_by_ancestor}
-use Rattle.tb_stackjoin.specs.Reaches.{no_reach, reach_at, pairs_in, opened, ancestors, ancestors_of, is_open_reach, IsReach, AreReaches}
+use Rattle.tb_stackjoin.specs.Reaches.{no_reach, reach_at, pairs_in, opened, ancestors, ancestors_of, is_open_reach, IsReach, HasReaches}
 use Rattle.tb_stackjoin.specs.declared.reach.Reach.{Reach}
 use Rattle.tb_stackjoin.proofs.PlaceLaws.{places_join}
 use Rattle.tb_stackjoin.proofs.RunLaws.{start_rises}
+use Rattle.tb_stackjoin.proofs.ThinLaws.{thin-same, thin-pairs}
 use Rattle.tb_stackjoin.proofs.ReachLaws.{below-none, ended_unrelated}
-
--- the reaches of a seed, before the first descendant
-pub seed-reaches : (a d : List Item) (r : Range) (seed : List ℕ) → AreReaches a d r r.lo (map (λ i. opened r i r.lo) seed) (range_with_len 0 (length seed))
-seed-reaches a d r seed =
-    let reaches = map (λ i. opened r i r.lo) seed in
-    record {
-      each = All-map (IsReach a d r r.lo) (λ i. opened r i r.lo) seed
-          (λ k e less. inl (record { lasts = refl; begins = omega arith; has = below-none d (label_at a (get_or seed k e)) r.lo r.lo (omega arith) ∙ sym (range_none r.lo r.lo (omega arith)) }));
-      stacked = sym (ap (λ n. filter (is_open_reach r reaches) (places n)) (length-map seed (λ i. opened r i r.lo))
-          ∙ filter_all (is_open_reach r reaches) (places (length seed))
-          (All-range (λ k. is_open_reach r reaches k ≡ true) 0 (length seed)
-          (λ k low high. ap (λ (x : Reach). nat_eq x.last r.hi) (get_or-map (λ i. opened r i r.lo) seed k 0 no_reach (omega arith)) ∙ eq-eqb r.hi r.hi refl)));
-    }
 
 pub seed-ancestors_of : (r : Range) (seed : List ℕ) → ancestors_of (map (λ i. opened r i r.lo) seed) (range_with_len 0 (length seed)) ≡ seed
 seed-ancestors_of r seed =
@@ -88,7 +77,7 @@ reach_pairs a d r x (inr h) = ap (λ js. map (λ j. pair x.a j) js) (sym h.has)
 
 -- All reaches together have the pairs of all ancestors: those before `from` that aren't in the seed have none, and
 -- those that weren't opened have none.
-pub all_pairs : (a d : List Item) (seed : List ℕ) (from next : ℕ) (r : Range) (reaches : List Reach) → AreJoinable a d → r.lo ≤ r.hi → r.hi ≤ length d → from ≤ next → next ≤ length a
+all_pairs : (a d : List Item) (seed : List ℕ) (from next : ℕ) (r : Range) (reaches : List Reach) → AreJoinable a d → r.lo ≤ r.hi → r.hi ≤ length d → from ≤ next → next ≤ length a
     → IsSeed a d seed from r → ((j : ℕ) → r.lo ≤ j → j < r.hi → (label_at d j).start < (label_at d j).end)
     → ancestors reaches ≡ seed ++ range_with_len from (next - from) → ((k : ℕ) → next ≤ k → k < length a → below Descendant d (label_at a k) r ≡ [])
     → All (IsReach a d r r.hi) reaches → flat_map pairs_in reaches ≡ pairs_by_ancestor Descendant a d r
@@ -113,22 +102,45 @@ seed-ancestors r seed from =
     map-map (λ (x : Reach). x.a) (λ i. opened r i r.lo) seed ∙ map-id seed
     ∙ sym (append-nil seed) ∙ ap (λ is. seed ++ is) (sym (range_none from from (omega arith)))
 
--- the ancestors that were passed, and some more
-pub made-more : (seed had have : List ℕ) (from next after : ℕ) → from ≤ next → next ≤ after → had ≡ seed ++ range_with_len from (next - from) → have ≡ had ++ range_with_len next (after - next)
-    → have ≡ seed ++ range_with_len from (after - from)
-made-more seed had have from next after low high made more =
-    more ∙ ap (λ is. is ++ range_with_len next (after - next)) made
-    ∙ append_assoc seed (range_with_len from (next - from)) (range_with_len next (after - next))
+-- The reaches of a seed, before the first descendant.
+pub seed-reaches : (a d : List Item) (r : Range) (seed : List ℕ) (from : ℕ) (pairs : List Pair) → pairs ≡ []
+    → HasReaches a d r r.lo (seed ++ range_with_len from (from - from)) pairs (map (λ i. opened r i r.lo) seed) (range_with_len 0 (length seed))
+seed-reaches a d r seed from pairs none =
+    let reaches = map (λ i. opened r i r.lo) seed in
+    record {
+      all = reaches;
+      gone = [];
+      made = seed-ancestors r seed from;
+      each = All-map (IsReach a d r r.lo) (λ i. opened r i r.lo) seed
+          (λ k e less. inl (record { lasts = refl; begins = omega arith; has = below-none d (label_at a (get_or seed k e)) r.lo r.lo (omega arith) ∙ sym (range_none r.lo r.lo (omega arith)) }));
+      thin = thin-same reaches;
+      over = All-nil (λ x. x.last < r.hi);
+      written = none;
+      stacked = sym (ap (λ n. filter (is_open_reach r reaches) (places n)) (length-map seed (λ i. opened r i r.lo))
+          ∙ filter_all (is_open_reach r reaches) (places (length seed))
+          (All-range (λ k. is_open_reach r reaches k ≡ true) 0 (length seed)
+          (λ k low high. ap (λ (x : Reach). nat_eq x.last r.hi) (get_or-map (λ i. opened r i r.lo) seed k 0 no_reach (omega arith)) ∙ eq-eqb r.hi r.hi refl)));
+    }
+
+-- What was written, and what is left to write, are the pairs by ancestor.
+pub written-all : (a d : List Item) (seed : List ℕ) (from next : ℕ) (r : Range) (pairs new : List Pair) (reaches : List Reach) (stack : List ℕ) → AreJoinable a d → r.lo ≤ r.hi → r.hi ≤ length d → from ≤ next
+    → next ≤ length a → IsSeed a d seed from r → ((j : ℕ) → r.lo ≤ j → j < r.hi → (label_at d j).start < (label_at d j).end) → ((k : ℕ) → next ≤ k → k < length a → below Descendant d (label_at a k) r ≡ [])
+    → HasReaches a d r r.hi (seed ++ range_with_len from (next - from)) pairs reaches stack → new ≡ pairs ++ flat_map pairs_in reaches → new ≡ pairs_by_ancestor Descendant a d r
+written-all a d seed from next r pairs new reaches stack ok le within low high seeded behind rest h added =
+    added ∙ ap (λ ps. ps ++ flat_map pairs_in reaches) h.written
+    ∙ sym (flat_map-append pairs_in h.gone reaches)
+    ∙ thin-pairs (h.gone ++ reaches) h.all h.thin
+    ∙ all_pairs a d seed from next r h.all ok le within low high seeded behind h.made rest h.each
+
+-- more ancestors
+pub made-more : (seed : List ℕ) (from next after : ℕ) → from ≤ next → next ≤ after
+    → (seed ++ range_with_len from (next - from)) ++ range_with_len next (after - next) ≡ seed ++ range_with_len from (after - from)
+made-more seed from next after low high =
+    append_assoc seed (range_with_len from (next - from)) (range_with_len next (after - next))
     ∙ ap (λ is. seed ++ is) (range_split from next after low high)
 
 -- they stand before the next one
-pub made-before : (seed made : List ℕ) (from next : ℕ) → from ≤ next → All (λ i. i < from) seed → made ≡ seed ++ range_with_len from (next - from) → All (λ i. i < next) made
-made-before seed made from next low first is =
-    subst (λ is. All (λ i. i < next) is) (sym is)
-    (All-append (λ i. i < next) seed (range_with_len from (next - from)) (λ k e less. omega (arith, first k e less))
-    (All-range (λ i. i < next) from (next - from) (λ i start end. omega arith)))
-
-pub made-length : (seed : List ℕ) (from next : ℕ) (reaches : List Reach) → from ≤ next → ancestors reaches ≡ seed ++ range_with_len from (next - from) → length reaches ≡ length seed + (next - from)
-made-length seed from next reaches low made =
-    sym (length-map reaches (λ (x : Reach). x.a)) ∙ ap length made ∙ length-append seed (range_with_len from (next - from))
-    ∙ ap (λ n. length seed + n) (length-range_with_len from (next - from))
+pub made-before : (seed : List ℕ) (from next : ℕ) → from ≤ next → All (λ i. i < from) seed → All (λ i. i < next) (seed ++ range_with_len from (next - from))
+made-before seed from next low first =
+    All-append (λ i. i < next) seed (range_with_len from (next - from)) (λ k e less. omega (arith, first k e less))
+    (All-range (λ i. i < next) from (next - from) (λ i start end. omega arith))

@@ -7,7 +7,9 @@ pub mod PairLaws
 pub mod JoinLaws
 pub mod ListedLaws
 pub mod SortLaws
+pub mod ThinLaws
 pub mod ReachLaws
+pub mod NumberLaws
 pub mod AncestorLaws
 pub mod OwnLaws
 pub mod ItemLaws

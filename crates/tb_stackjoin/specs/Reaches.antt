@@ -1,6 +1,6 @@
 -- The reach of an ancestor: the part of a range of descendants that is below it. On the axis of descendants these
 -- stand side by side, so two places tell them.
-use Rattle.std.specs.Prelude.{◌≡◌, ℕ, ◌<◌, ◌≤◌, ◌⊎◌, Bool, nat_eq, List, All, length, map, filter, slice_index_or}
+use Rattle.std.specs.Prelude.{◌≡◌, ℕ, ◌+◌, ◌<◌, ◌≤◌, ◌⊎◌, Bool, ◌&&◌, cond, nat_eq, List, [], ◌∷◌, ◌++◌, All, length, map, filter, flat_map, take, set, slice_index_or}
 use Rattle.tb_span.specs.Seeds.{label_at, places, Range, range, places_in}
 use Rattle.tb_span.specs.declared.item.Axis.TheVariants.{Descendant}
 use Rattle.tb_span.specs.declared.item.Item.{Item}
@@ -26,6 +26,11 @@ opened r i place = record { a = i; first = place; last = r.hi }
 -- the same, ended before a place
 abbrev pub ended : ℕ → Reach → Reach
 ended place x = record { a = x.a; first = x.first; last = place }
+
+-- A reach ends before a place: the newest one goes, where it has no place.
+abbrev pub reaches_ended : ℕ → ℕ → List Reach → List Reach
+reaches_ended place k reaches =
+    cond (nat_eq (reach_at reaches k).first place && nat_eq (k + 1) (length reaches)) (take k reaches) (set reaches k (ended place (reach_at reaches k)))
 
 -- the ancestors of all reaches, and of those whose numbers are on a stack
 abbrev pub ancestors : List Reach → List ℕ
@@ -57,7 +62,20 @@ pub record IsEnded (a d : List Item) (r : Range) (place : ℕ) (x : Reach) : Typ
 abbrev pub IsReach : List Item → List Item → Range → ℕ → Reach → Type 0
 IsReach a d r place x = IsOpen a d r place x ⊎ IsEnded a d r place x
 
--- The reaches of the descendants before a place, and the stack that has the numbers of the open ones.
-pub record AreReaches (a d : List Item) (r : Range) (place : ℕ) (reaches : List Reach) (stack : List ℕ) : Type 0 where
-  pub each : All (IsReach a d r place) reaches
+-- the first reaches are the second without some that have no place
+abbrev pub Thins : List Reach → List Reach → Type 0
+Thins some [] = some ≡ []
+Thins some (x ∷ all) = ((rest : List Reach) × (some ≡ x ∷ rest) × Thins rest all) ⊎ ((x.last ≤ x.first) × Thins some all)
+
+-- What a join has before the descendant at a place: each ancestor that was passed has a reach, some of these were
+-- written as pairs when they had ended, and the others wait, but for some that have no place. The stack has the
+-- numbers of the open ones.
+pub record HasReaches (a d : List Item) (r : Range) (place : ℕ) (passed : List ℕ) (pairs : List Pair) (reaches : List Reach) (stack : List ℕ) : Type 0 where
+  pub all : List Reach
+  pub gone : List Reach
+  pub made : ancestors all ≡ passed
+  pub each : All (IsReach a d r place) all
+  pub thin : Thins (gone ++ reaches) all
+  pub over : All (λ x. x.last < r.hi) gone
+  pub written : pairs ≡ flat_map pairs_in gone
   pub stacked : stack ≡ open_reaches r reaches

@@ -5,18 +5,17 @@
 //! places tell them; and reaches are made in the order of their ancestors, so what an entry inherits stands
 //! behind it already.
 
-ghost use Rattle.std.specs.Prelude.{◌≡◌, ◌+◌, ◌^◌, ◌<◌, ◌≤◌, length, flat_map, IfOk};
+ghost use Rattle.std.specs.Prelude.{◌≡◌, ◌+◌, ◌^◌, ◌<◌, ◌≤◌, length, IfOk};
 ghost use Rattle.tb_span.specs.Lists.{AreJoinable};
 ghost use Rattle.tb_span.specs.Seeds.{IsSeed, range};
 ghost use Rattle.tb_span.specs.declared.item.Axis.TheVariants.{Child, Descendant};
 ghost use Rattle.tb_stackjoin.specs.Pairs.{pairs_by_ancestor};
-ghost use Rattle.tb_stackjoin.specs.Reaches.{pairs_in};
 ghost use Rattle.tb_stackjoin.specs.Turns.{most_steps};
 
 use crate::by_descendant::join_desc;
 use crate::opening::{end_reaches, open_seed, open_started};
 use crate::order::put_by_ancestor;
-use crate::reach::{Reach, count_pairs, pair_reaches};
+use crate::reach::write_reaches;
 use crate::stack::{Stack, label_of};
 use std::alloc::{AllocError, Global};
 use std::sync::ledger::Ledger;
@@ -47,37 +46,7 @@ pub fn join_anc<L: Ledger>(
     }
 }
 
-/// The reaches of all ancestors of the range, in their order.
-fn reaches_of<L: Ledger>(
-    alloc: Global,
-    a: &[Item],
-    d: &[Item],
-    seed: &[u32],
-    from: u32,
-    lo: u32,
-    hi: u32,
-    steps: &mut Steps<L>,
-) -> Result<Vec<Reach>, AllocError>
-    requires joinable { AreJoinable a.now d.now }
-    requires range { (lo ≤ hi) × (hi ≤ length d.now) × (from ≤ length a.now) }
-    requires seeded { IsSeed a.now d.now seed.now from (range lo hi) }
-    ensures pairs { IfOk result (λ reaches.
-        flat_map pairs_in reaches.items ≡ pairs_by_ancestor Descendant a.now d.now (range lo hi)) }
-    ensures cost { steps.new ≤ steps.old + most_steps a.now d.now seed.now from (range lo hi) }
-{
-    let mut reaches = Vec::new(alloc);
-    let mut stack = Stack::new(alloc);
-    open_seed(seed, lo, hi, &mut reaches, &mut stack)?;
-    let mut next = from;
-    'each: for place in lo..hi {
-        let label = label_of(d, place);
-        next = open_started(a, next, label, place, hi, &mut reaches, &mut stack, steps)?;
-        end_reaches(a, label, place, &mut reaches, &mut stack, steps);
-    }
-    Ok(reaches)
-}
-
-/// The pairs with all descendants: those of each reach, into room for all of them.
+/// The pairs with all descendants, from the reaches of their ancestors.
 fn by_reach<L: Ledger>(
     alloc: Global,
     a: &[Item],
@@ -95,9 +64,27 @@ fn by_reach<L: Ledger>(
         pairs.items ≡ pairs_by_ancestor Descendant a.now d.now (range lo hi)) }
     ensures cost { steps.new ≤ steps.old + most_steps a.now d.now seed.now from (range lo hi) }
 {
-    let reaches = reaches_of(alloc, a, d, seed, from, lo, hi, steps)?;
-    let mut pairs = Vec::with_capacity(alloc, count_pairs(&reaches))?;
-    pair_reaches(&reaches, &mut pairs)?;
+    let mut pairs = Vec::new(alloc);
+    let mut reaches = Vec::new(alloc);
+    let mut stack = Stack::new(alloc);
+    open_seed(seed, lo, hi, &mut reaches, &mut stack)?;
+    let mut next = from;
+    'each: for place in lo..hi {
+        let label = label_of(d, place);
+        next = open_started(
+            a,
+            next,
+            label,
+            place,
+            hi,
+            &mut reaches,
+            &mut stack,
+            &mut pairs,
+            steps,
+        )?;
+        end_reaches(a, label, place, &mut reaches, &mut stack, steps);
+    }
+    write_reaches(&mut reaches, &mut pairs)?;
     Ok(pairs)
 }
 

@@ -199,6 +199,18 @@ fn chain(alloc: Global, length: u16) -> Result<Vec<(u32, u32, u16)>, AllocError>
     Ok(numbers)
 }
 
+// So many nodes beside each other, like the first one.
+fn beside(alloc: Global, count: u16, first: (u32, u32, u16)) -> Result<Vec<(u32, u32, u16)>, Fail> {
+    let mut numbers = Vec::new(alloc);
+    for place in 0..count {
+        let on = 4 * u32::from(place);
+        let start = first.0.checked_add(on).ok_or("a start too large")?;
+        let end = first.1.checked_add(on).ok_or("an end too large")?;
+        numbers.push((start, end, first.2))?;
+    }
+    Ok(numbers)
+}
+
 fn numbers_of(alloc: Global, pairs: &[Pair]) -> Result<Vec<(u32, u32)>, AllocError> {
     let mut numbers = Vec::new(alloc);
     for pair in pairs {
@@ -273,6 +285,8 @@ fn small_lists_have_the_pairs_that_were_worked_by_hand(rt: HostRuntime) -> Resul
 #[test]
 fn each_shape_of_lists_has_the_pairs_of_its_nested_loops(rt: HostRuntime) -> Result<(), Fail> {
     let long = chain(rt.alloc(), 512)?;
+    let many = beside(rt.alloc(), 200, (2, 5, 1))?;
+    let inner = beside(rt.alloc(), 200, (3, 4, 2))?;
     let rows = [
         ("flat", FLAT, FLAT, 0, 0),
         (
@@ -281,6 +295,13 @@ fn each_shape_of_lists_has_the_pairs_of_its_nested_loops(rt: HostRuntime) -> Res
             long.as_slice(),
             130_816,
             511,
+        ),
+        (
+            "one in each of many",
+            many.as_slice(),
+            inner.as_slice(),
+            200,
+            200,
         ),
         ("equal lists", TREE, TREE, 8, 5),
         ("one list inside the other", UPPER, LOWER, 6, 3),

@@ -5,7 +5,7 @@ use Rattle.tb_span.specs.declared.item.Axis.TheVariants.{Descendant}
 use Rattle.tb_span.specs.declared.item.Item.{Item}
 use Rattle.tb_stackjoin.specs.Pairs.{below}
 use Rattle.tb_stackjoin.specs.Stacks.{IsStack, run, spent}
-use Rattle.tb_stackjoin.specs.Reaches.{ancestors, ancestors_of, AreReaches}
+use Rattle.tb_stackjoin.specs.Reaches.{ancestors_of, HasReaches}
 use Rattle.tb_stackjoin.proofs.opening.open_started.Given as goal
 
 -- each ancestor that was passed has a reach, and pays three steps
@@ -15,10 +15,10 @@ invariant-started g l = record {
   counted : l.next + run l.a l.next l.label.start ≡ l.first + run l.a l.first l.label.start;
   stacked : IsStack l.a l.next (ancestors_of l.reaches.items l.stack.items);
   numbered : All (λ k. k < length l.reaches.items) l.stack.items;
-  ancestors : ancestors l.reaches.items ≡ ancestors l.initial.reaches.items ++ range_with_len l.first (l.next - l.first);
-  reaches : (d : List Item) → (lo : ℕ) → l.place < l.hi → l.label.start ≤ (label_at d l.place).start
+  reaches : (d : List Item) → (lo : ℕ) → (passed : List ℕ) → l.place < l.hi → l.label.start ≤ (label_at d l.place).start
       → ((k : ℕ) → l.first ≤ k → k < length l.a → below Descendant d (label_at l.a k) (range lo l.place) ≡ [])
-      → AreReaches l.a d (range lo l.hi) l.place l.initial.reaches.items l.initial.stack.items → AreReaches l.a d (range lo l.hi) l.place l.reaches.items l.stack.items;
+      → HasReaches l.a d (range lo l.hi) l.place passed l.initial.pairs.items l.initial.reaches.items l.initial.stack.items
+      → HasReaches l.a d (range lo l.hi) l.place (passed ++ range_with_len l.first (l.next - l.first)) l.pairs.items l.reaches.items l.stack.items;
   cost : spent l.steps l.stack.items + 3 * l.first ≤ spent l.initial.steps l.initial.stack.items + 3 * l.next;
 }
 

@@ -1,0 +1,26 @@
+//! Twig matching: the witnesses of a pattern, by one structural join an edge, in any order of the edges.
+#![tactic(auto)]
+
+mod branch;
+mod condition;
+mod copies;
+mod found;
+mod hits;
+mod joins;
+mod layout;
+mod link;
+mod matching;
+mod narrow;
+mod nodes;
+mod offers;
+mod rows;
+mod run;
+mod trim;
+
+pub use found::{Found, witnesses};
+pub use link::Link;
+pub use matching::{Matched, join_edges};
+pub use tb_pattern::{Offer, Witness};
+
+#[cfg(test)]
+mod tests;
