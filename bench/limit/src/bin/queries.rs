@@ -3,8 +3,7 @@
 //! ORDER are the numbers of the edges, as 0,1,2; with `all` no list is narrowed. What it found goes to standard
 //! output, and how long each step took, in nanoseconds, to standard error.
 
-use limit::joins::join_edges;
-use limit::joins::asks;
+use limit::joins::{asks, join_edges};
 use limit::patterns::{BESIDE, DEEP, LIBRARY, VAIN};
 use limit::reader::read_tree;
 use limit::rows::{rows_below, sum_of};
