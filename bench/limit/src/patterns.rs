@@ -51,3 +51,11 @@ pub const VAIN: &[Edge] = &[
     edge(3, Axis::Descendant, Mark::One, b"a", None),
     edge(4, Axis::Descendant, Mark::One, b"z", None),
 ];
+
+/// `(//- a (//- a (//- a)), //- z)`
+pub const BESIDE: &[Edge] = &[
+    edge(0, Axis::Descendant, Mark::One, b"a", None),
+    edge(1, Axis::Descendant, Mark::One, b"a", None),
+    edge(2, Axis::Descendant, Mark::One, b"a", None),
+    edge(0, Axis::Descendant, Mark::One, b"z", None),
+];

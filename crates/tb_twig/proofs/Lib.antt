@@ -16,3 +16,4 @@ pub mod StartLaws
 pub mod HoldsLaws
 pub mod DoneLaws
 pub mod MatchingLaws
+pub mod VainLaws

@@ -16,6 +16,7 @@ mod offers;
 mod rows;
 mod run;
 mod trim;
+mod vain;
 
 pub use found::{Found, witnesses};
 pub use link::Link;

@@ -13,6 +13,7 @@ ghost use Rattle.tb_twig.specs.Seen.{seen, row_seen};
 use crate::Link;
 use crate::offers::{offered, product};
 use crate::run::{leading_from, links_of};
+use crate::vain::is_in_vain;
 use std::alloc::{AllocError, Global};
 use tb_pattern::{Edge, Offer, Witness};
 use tb_span::NodeId;
@@ -31,6 +32,9 @@ pub fn rows_at(
     ensures { IfOk result (λ witnesses. (look : ℕ → Plain) → map (seen look) witnesses.items
         ≡ map (witness n (look n)) (built_by look (links_at links.now) 0 (edges_of edges.now) n)) }
 {
+    if is_in_vain(edges, links, n) {
+        return Ok(Vec::new(alloc));
+    }
     let rows = rows_below(alloc, edges, 0, links, n)?;
     let mut witnesses = Vec::with_capacity(alloc, rows.len())?;
     push_all(n, rows, &mut witnesses)?;
@@ -117,7 +121,7 @@ fn push_all(
 
 /// How many edges there are below this one.
 #[cycle(sizes)]
-fn size_below(edge: &Edge) -> u32
+pub fn size_below(edge: &Edge) -> u32
     requires { nodes_in (below_of (edge_of edge.now)) < 2 ^ 32 }
     ensures { result ≡ nodes_in (below_of (edge_of edge.now)) }
 {

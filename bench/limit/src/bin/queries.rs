@@ -1,10 +1,10 @@
-//! Matches a pattern over the document on standard input: queries library|deep|vain ORDER [all].
+//! Matches a pattern over the document on standard input: queries library|deep|vain|beside ORDER [all].
 //!
 //! ORDER are the numbers of the edges, as 0,1,2; with `all` no list is narrowed. What it found goes to standard
 //! output, and how long each step took, in nanoseconds, to standard error.
 
-use limit::joins::join_edges;
-use limit::patterns::{DEEP, LIBRARY, VAIN};
+use limit::joins::{asks, join_edges};
+use limit::patterns::{BESIDE, DEEP, LIBRARY, VAIN};
 use limit::reader::read_tree;
 use limit::rows::{rows_below, sum_of};
 use limit::store::Store;
@@ -18,6 +18,7 @@ fn main() -> io::Result<()> {
     let edges = match words[1].as_str() {
         "library" => LIBRARY,
         "deep" => DEEP,
+        "beside" => BESIDE,
         _ => VAIN,
     };
     let order: Vec<usize> = words[2].split(',').map(|word| word.parse().expect("a number")).collect();
@@ -31,7 +32,8 @@ fn main() -> io::Result<()> {
     let joined = join_edges(&store, edges, &order, narrows);
     eprintln!("joins {}", start.elapsed().as_nanos());
     let start = Instant::now();
-    let rows = rows_below(edges, 0, &joined, 0);
+    let is_in_vain = edges.iter().zip(&joined.links).any(|(edge, links)| edge.up == 0 && asks(edge.mark) && links.is_empty());
+    let rows = if is_in_vain { Vec::new() } else { rows_below(edges, 0, &joined, 0) };
     eprintln!("rows {}", start.elapsed().as_nanos());
     println!("rows {}\nsum {}", rows.len(), sum_of(&rows));
     eprintln!("read {}\npairs {}", joined.read, joined.pairs);
