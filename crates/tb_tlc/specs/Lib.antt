@@ -1,5 +1,3 @@
 -- What plans mean, and the plans of `MATCH` queries.
 pub mod Meaning
 pub mod Matches
-pub mod Planned
-pub mod Returned
