@@ -152,7 +152,7 @@ impl Reader {
         if is_implied(kind) {
             return Ok(());
         }
-        if self.draft.is_waiting_for(name)? {
+        if self.draft.is_waiting_for(name) {
             return Err(EsisFault::BadAttribute(number));
         }
         let Some(value) = given(raw, scratch)? else {

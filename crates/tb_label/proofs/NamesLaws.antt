@@ -1,39 +1,34 @@
 -- The lists of names, by number and by name.
-use Rattle.std.proofs.Common.{◌≡◌, ℕ, zero, suc, ◌+◌, ◌<◌, Bool, true, false, cond, ◌==◌, List, [], ◌∷◌, ◌++◌, length, get_or, take, map, set, Option, Some, None, Vec, Global, refl, sym, ap, ap₂, ◌∙◌, subst, arith, append-nil, eqb-true, length-take}
-use Rattle.std.specs.BTreeMap.{BTreeMap, is_at}
-use Rattle.std.specs.Cmp.Lexicographic.{slice_cmp}
-use Rattle.std.specs.Ordering.{nat_cmp}
+use Rattle.std.proofs.Common.{◌≡◌, ℕ, zero, suc, ◌+◌, ◌<◌, Bool, true, false, ◌==◌, List, [], ◌∷◌, ◌++◌, length, get_or, take, map, set, Option, Some, None, Vec, Global, refl, sym, ap, ap₂, ◌∙◌, subst, arith, ⊎_elim, append-nil, eqb-true, length-take}
 use Rattle.std.specs.Option.{option_map_or}
 use Rattle.std.specs.Str.{bytes_eq}
 use Rattle.std.proofs.lemmas.Bool.{false≢true, eq-eqb, ne_eqb, eqb-false}
 use Rattle.std.proofs.lemmas.List.{take_more, get_or-take, map-set, get_or-map, get_or-set_same, get_or-set_other, length-map}
 use Rattle.std.proofs.lemmas.Slice.Eq.{bytes_eq-Decides}
 use Rattle.tb_span.specs.declared.item.Item.{Item}
-use Rattle.tb_tree.specs.NameTables.{IsTable, AreApart, number_in}
-use Rattle.tb_tree.proofs.NameLaws.{table-more}
+use Rattle.tb_tree.specs.NameTables.{AreApart, IsNumber, IsMore, same, one_more, place_of}
+use Rattle.tb_tree.proofs.NameLaws.{place-stands, place-none, stood}
 use Rattle.tb_label.specs.Lists.{one_if}
 
 -- an item of the name with the number n is seen by that name alone
-seen_case : (table : List (List ℕ)) (known : BTreeMap (List ℕ) ℕ) (n : ℕ) (q : List ℕ) (old new : ℕ → List Item) (item : Item) (found : Option ℕ) (same : Bool) → IsTable table known → n < length table
-    → ((k : ℕ) → new k ≡ old k ++ one_if (k == n) item) → number_in known q ≡ found → bytes_eq q (get_or table n []) ≡ same
+seen_case : (table : List (List ℕ)) (n : ℕ) (q : List ℕ) (old new : ℕ → List Item) (item : Item) (found : Option ℕ) (same : Bool) → AreApart table → n < length table
+    → ((k : ℕ) → new k ≡ old k ++ one_if (k == n) item) → place_of q table ≡ found → bytes_eq q (get_or table n []) ≡ same
     → option_map_or new found [] ≡ option_map_or old found [] ++ one_if same item
-seen_case table known n q old new item None true t less grows is alike =
-    let here : q ≡ get_or table n [] = (bytes_eq-Decides q (get_or table n [])).0 alike in
-    absurd (let d : ◌≡◌ {A = Option ℕ} None (Some n) = sym is ∙ ap (number_in known) here ∙ t.found n less in cc)
-seen_case table known n q old new item None false t less grows is alike = refl
-seen_case table known n q old new item (Some k) true t less grows is alike =
-    let here : q ≡ get_or table n [] = (bytes_eq-Decides q (get_or table n [])).0 alike in
-    let number : k ≡ n = let d : ◌≡◌ {A = Option ℕ} (Some k) (Some n) = sym is ∙ ap (number_in known) here ∙ t.found n less in cc in
+seen_case table n q old new item None true apart less grows is alike = absurd (place-none table q is n (less, sym ((bytes_eq-Decides q (get_or table n [])).0 alike)))
+seen_case table n q old new item None false apart less grows is alike = refl
+seen_case table n q old new item (Some k) true apart less grows is alike =
+    let there = place-stands table q k is in
+    let number : k ≡ n = apart k n there.0 less (there.1 ∙ (bytes_eq-Decides q (get_or table n [])).0 alike) in
     grows k ∙ ap (λ b. old k ++ one_if b item) (eq-eqb k n number)
-seen_case table known n q old new item (Some k) false t less grows is alike =
-    let there = t.stands q k is in
+seen_case table n q old new item (Some k) false apart less grows is alike =
+    let there = place-stands table q k is in
     let other : (k == n) ≡ false = ne_eqb k n (λ e. false≢true (sym alike ∙ (bytes_eq-Decides q (get_or table n [])).1 (sym there.1 ∙ ap (λ m. get_or table m []) e))) in
     grows k ∙ ap (λ b. old k ++ one_if b item) other
 
-pub names-seen : (table : List (List ℕ)) (known : BTreeMap (List ℕ) ℕ) (n : ℕ) (q : List ℕ) (old new : ℕ → List Item) (item : Item) → IsTable table known → n < length table
+pub names-seen : (table : List (List ℕ)) (n : ℕ) (q : List ℕ) (old new : ℕ → List Item) (item : Item) → AreApart table → n < length table
     → ((k : ℕ) → new k ≡ old k ++ one_if (k == n) item)
-    → option_map_or new (number_in known q) [] ≡ option_map_or old (number_in known q) [] ++ one_if (bytes_eq q (get_or table n [])) item
-names-seen table known n q old new item t less grows = seen_case table known n q old new item (number_in known q) (bytes_eq q (get_or table n [])) t less grows refl refl
+    → option_map_or new (place_of q table) [] ≡ option_map_or old (place_of q table) [] ++ one_if (bytes_eq q (get_or table n [])) item
+names-seen table n q old new item apart less grows = seen_case table n q old new item (place_of q table) (bytes_eq q (get_or table n [])) apart less grows refl refl
 
 -- no list has an item
 pub none-seen : (o : Option ℕ) (lists : ℕ → List Item) → ((k : ℕ) → lists k ≡ []) → option_map_or lists o [] ≡ []
@@ -61,22 +56,25 @@ pushed-at lists n list new item less is more k = by_case (k == n) refl
         ∙ get_or-set_other (map (λ (v : Vec Item Global). v.items) lists) n k new.items [] (eqb-false k n e)
         ∙ sym (append-nil _) ∙ ap (λ b. get_or (map (λ (v : Vec Item Global). v.items) lists) k [] ++ one_if b item) (sym e)
 
--- the next of different names is none of those before it
-fresh_case : (names : List (List ℕ)) (known : BTreeMap (List ℕ) ℕ) (i : ℕ) (found : Option ℕ) → AreApart names → IsTable (take i names) known → i < length names → number_in known (get_or names i []) ≡ found → found ≡ None
-fresh_case names known i None apart t less is = refl
-fresh_case names known i (Some n) apart t less is =
-    let there = t.stands (get_or names i []) n is in
-    let before : n < i = omega (arith, there.0, length-take i names) in
-    absurd (omega (arith, before, apart n i (omega (arith, before, less)) less (sym (get_or-take i names n [] before) ∙ there.1)))
+-- the next of different names is none of those before it, so it is one more
+fresh : (names : List (List ℕ)) (i : ℕ) (k : ℕ) → AreApart names → i < length names → IsNumber (take i names) (get_or names i []) k → ⊥
+fresh names i k apart less at =
+    let before : k < i = omega (arith, at.0, length-take i names) in
+    omega (arith, before, apart k i (omega (arith, before, less)) less (sym (get_or-take i names k [] before) ∙ at.1))
 
-pub table-next : (names : List (List ℕ)) (known more : BTreeMap (List ℕ) ℕ) (i : ℕ) (name : List ℕ) → AreApart names → IsTable (take i names) known → i < length names → name ≡ get_or names i []
-    → ((q : List ℕ) → number_in more q ≡ cond (is_at (slice_cmp nat_cmp name) q) (Some i) (number_in known q)) → IsTable (take (i + 1) names) more
-table-next names known more i name apart t less is writes =
-    let long : length (take i names) ≡ i = omega (arith, length-take i names, less) in
-    let none : number_in known name ≡ None = ap (number_in known) is ∙ fresh_case names known i _ apart t less refl in
-    subst (λ l. IsTable l more) (ap (λ n. take i names ++ n ∷ []) is ∙ sym (take_more names i [] less))
-    (table-more (take i names) known more name t none
-    (subst (λ k. (q : List ℕ) → number_in more q ≡ cond (is_at (slice_cmp nat_cmp name) q) (Some k) (number_in known q)) (sym long) writes))
+pub names-next : (names table new : List (List ℕ)) (i number : ℕ) → AreApart names → i < length names → table ≡ take i names → IsMore table new → IsNumber new (get_or names i []) number
+    → new ≡ take (i + 1) names
+names-next names table new i number apart less is (same e) at =
+    absurd (fresh names i number apart less (subst (λ l. IsNumber l (get_or names i []) number) (e ∙ is) at))
+names-next names table new i number apart less is (one_more name e) at =
+    let grown : new ≡ take i names ++ name ∷ [] = e ∙ ap (λ l. l ++ name ∷ []) is in
+    let last : name ≡ get_or names i [] =
+    last_is (subst (λ l. IsNumber l (get_or names i []) number) grown at) in
+    grown ∙ ap (λ x. take i names ++ x ∷ []) last ∙ sym (take_more names i [] less)
+  where
+    last_is : IsNumber (take i names ++ name ∷ []) (get_or names i []) number → name ≡ get_or names i []
+    last_is at =
+        ⊎_elim (λ old. absurd (fresh names i number apart less (subst (λ q. IsNumber (take i names) q number) at.1 old))) (λ new. sym new.1 ∙ at.1) (stood (take i names) name number at.0)
 
 -- an empty list more
 pub empty-more : (lists : List (Vec Item Global)) (list : Vec Item Global) → list.items ≡ [] → ((k : ℕ) → get_or (map (λ (v : Vec Item Global). v.items) lists) k [] ≡ [])

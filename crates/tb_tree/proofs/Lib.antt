@@ -7,6 +7,8 @@ pub mod EscapeLaws
 pub mod PrintLaws
 pub mod PrintedBytes
 pub mod NameLaws
+pub mod TextMaps
+pub mod IndexLaws
 pub mod NotedLaws
 pub mod JoinedLaws
 pub mod PutLaws

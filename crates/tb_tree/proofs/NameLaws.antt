@@ -1,90 +1,89 @@
 -- Names and their numbers.
-use Rattle.std.proofs.Common.{◌≡◌, ◌⊎◌, ℕ, ◌+◌, ◌<◌, ◌≤◌, Bool, true, false, cond, ◌-◌, List, [], ◌∷◌, ◌++◌, length, take, get_or, replicate, Option, Some, None, refl, sym, ap, ◌∙◌, subst, arith, ⊎_elim, length-append}
-use Rattle.std.specs.BTreeMap.{BTreeMap, is_at}
-use Rattle.std.specs.Map.{lookup}
-use Rattle.std.specs.Ordering.{nat_cmp}
-use Rattle.std.specs.Cmp.Lexicographic.{slice_cmp}
-use Rattle.std.proofs.lemmas.Bool.{cases_lt}
+use Rattle.std.proofs.Common.{◌≡◌, ◌⊎◌, inl, inr, ℕ, zero, suc, ◌+◌, ◌<◌, ◌≤◌, Bool, true, false, cond, ◌-◌, List, [], ◌∷◌, ◌++◌, length, take, get_or, replicate, Option, Some, None, refl, sym, ap, ◌∙◌, subst, arith, ⊎_elim, length-append}
+use Rattle.std.specs.Option.{option_map}
+use Rattle.std.specs.Str.{bytes_eq}
+use Rattle.std.proofs.lemmas.Bool.{cases_lt, false≢true}
 use Rattle.std.proofs.lemmas.List.{get_or_append_left, get_or_push, take_at, get_or-append_right, get_or-replicate}
-use Rattle.std.proofs.lemmas.Map.Text.{is_eq-slice_cmp}
 use Rattle.std.proofs.lemmas.Slice.Eq.{bytes_eq-Decides}
-use Rattle.tb_tree.specs.NameTables.{IsTable, AreApart, IsKnown, IsMore, same, one_more, IsNumber, number_in}
-
--- No name stands twice in a table.
-pub table-apart : (table : List (List ℕ)) (known : BTreeMap (List ℕ) ℕ) → IsTable table known → AreApart table
-table-apart table known t m n less more e =
-    let both : ◌≡◌ {A = Option ℕ} (Some m) (Some n) = sym (t.found m less) ∙ ap (number_in known) e ∙ t.found n more in
-    cc
+use Rattle.tb_tree.specs.NameTables.{AreApart, IsKnown, IsMore, same, one_more, IsNumber, place_of}
 
 pub more-length : (old new : List (List ℕ)) → IsMore old new → (length old ≤ length new) × (length new ≤ length old + 1)
 more-length old new (same e) = (omega (arith, ap length e), omega (arith, ap length e))
 more-length old new (one_more name e) = (omega (arith, ap length e, length-append old (name ∷ [])), omega (arith, ap length e, length-append old (name ∷ [])))
 
--- A table with a new name at its end.
-found_case : (table : List (List ℕ)) (known : BTreeMap (List ℕ) ℕ) (name q : List ℕ) (n : ℕ) (here : Bool) → IsTable table known
-    → is_at (slice_cmp nat_cmp name) q ≡ here → cond here (Some (length table)) (number_in known q) ≡ Some n → (n < length (table ++ name ∷ [])) × (get_or (table ++ name ∷ []) n [] ≡ q)
-found_case table known name q n true t is e =
-    let same_number : length table ≡ n = let d : ◌≡◌ {A = Option ℕ} (Some (length table)) (Some n) = e in cc in
-    let alike : name ≡ q = (bytes_eq-Decides name q).0 (sym (is_eq-slice_cmp name q) ∙ is) in
-    (omega (arith, length-append table (name ∷ [])), get_or_push table name [] n same_number ∙ alike)
-found_case table known name q n false t is e =
-    let old = t.stands q n e in
-    (omega (arith, old.0, length-append table (name ∷ [])), get_or_append_left table (name ∷ []) [] n old.0 ∙ old.1)
+-- The number of a name is its own.
+pub known-found : (names : List (List ℕ)) (name : List ℕ) (n : ℕ) → AreApart names → IsNumber names name n → IsKnown names name (Some n)
+known-found names name n apart at = (at, λ k other. apart k n other.0 at.0 (other.1 ∙ sym at.1))
 
-apart_case : (known : BTreeMap (List ℕ) ℕ) (name q : List ℕ) (n : ℕ) (here : Bool) → number_in known name ≡ None → number_in known q ≡ Some n
-    → is_at (slice_cmp nat_cmp name) q ≡ here → here ≡ false
-apart_case known name q n true none some is =
-    let alike : name ≡ q = (bytes_eq-Decides name q).0 (sym (is_eq-slice_cmp name q) ∙ is) in
-    absurd (let d : ◌≡◌ {A = Option ℕ} None (Some n) = sym none ∙ ap (number_in known) alike ∙ some in cc)
-apart_case known name q n false none some is = refl
+-- Different names with a new one at their end.
+pub number-more : (names more : List (List ℕ)) (name : List ℕ) (n : ℕ) → IsNumber names name n → IsNumber (names ++ more) name n
+number-more names more name n at = (omega (arith, at.0, length-append names more), get_or_append_left names more [] n at.0 ∙ at.1)
 
-itself : (name : List ℕ) → is_at (slice_cmp nat_cmp name) name ≡ true
-itself name = is_eq-slice_cmp name name ∙ (bytes_eq-Decides name name).1 refl
+pub stands-last : (names : List (List ℕ)) (name : List ℕ) (n : ℕ) → n ≡ length names → IsNumber (names ++ name ∷ []) name n
+stands-last names name n is = (omega (arith, is, length-append names (name ∷ [])), get_or_push names name [] n (sym is))
 
-pub table-more : (table : List (List ℕ)) (known more : BTreeMap (List ℕ) ℕ) (name : List ℕ) → IsTable table known → number_in known name ≡ None
-    → ((q : List ℕ) → number_in more q ≡ cond (is_at (slice_cmp nat_cmp name) q) (Some (length table)) (number_in known q))
-    → IsTable (table ++ name ∷ []) more
-table-more table known more name t none writes = record {
-  stands = λ q n e. found_case table known name q n (is_at (slice_cmp nat_cmp name) q) t refl (sym (writes q) ∙ e);
-  found = λ n less. found n less (cases_lt n (length table));
-}
+-- what stands in names with one at their end, stands there already or is that one
+pub stood : (names : List (List ℕ)) (name : List ℕ) (n : ℕ) → n < length (names ++ name ∷ [])
+    → (IsNumber names (get_or (names ++ name ∷ []) n []) n) ⊎ ((n ≡ length names) × (get_or (names ++ name ∷ []) n [] ≡ name))
+stood names name n less = ⊎_elim (λ (old : n < length names). inl (old, sym (get_or_append_left names (name ∷ []) [] n old))) (λ (past : length names ≤ n). inr (last past)) (cases_lt n (length names))
   where
-    found : (n : ℕ) → n < length (table ++ name ∷ []) → (n < length table) ⊎ (length table ≤ n) → number_in more (get_or (table ++ name ∷ []) n []) ≡ Some n
-    found n less c = ⊎_elim (λ (old : n < length table). old_found n old) (λ (new : length table ≤ n). new_found n (omega (arith, less, new, length-append table (name ∷ [])))) c
-      where
-        old_found : (n : ℕ) → n < length table → number_in more (get_or (table ++ name ∷ []) n []) ≡ Some n
-        old_found n old =
-            let q = get_or table n [] in
-            let is : number_in known q ≡ Some n = t.found n old in
-            ap (number_in more) (get_or_append_left table (name ∷ []) [] n old) ∙ writes q
-            ∙ ap (λ b. cond b (Some (length table)) (number_in known q)) (apart_case known name q n (is_at (slice_cmp nat_cmp name) q) none is refl) ∙ is
+    last : length names ≤ n → (n ≡ length names) × (get_or (names ++ name ∷ []) n [] ≡ name)
+    last past =
+        let is : n ≡ length names = omega (arith, less, past, length-append names (name ∷ [])) in
+        (is, get_or_push names name [] n (sym is))
 
-        new_found : (n : ℕ) → length table ≡ n → number_in more (get_or (table ++ name ∷ []) n []) ≡ Some n
-        new_found n is =
-            ap (number_in more) (get_or_push table name [] n is) ∙ writes name ∙ ap (λ b. cond b (Some (length table)) (number_in known name)) (itself name) ∙ ap Some is
+pub apart-more : (names : List (List ℕ)) (name : List ℕ) → AreApart names → IsKnown names name None → AreApart (names ++ name ∷ [])
+apart-more names name apart new m n less more e = by (stood names name m less) (stood names name n more)
+  where
+    by : (IsNumber names (get_or (names ++ name ∷ []) m []) m) ⊎ ((m ≡ length names) × (get_or (names ++ name ∷ []) m [] ≡ name))
+        → (IsNumber names (get_or (names ++ name ∷ []) n []) n) ⊎ ((n ≡ length names) × (get_or (names ++ name ∷ []) n [] ≡ name)) → m ≡ n
+    by (inl a) (inl b) = apart m n a.0 b.0 (a.1 ∙ e ∙ sym b.1)
+    by (inl a) (inr b) = absurd (new m (a.0, a.1 ∙ e ∙ b.1))
+    by (inr a) (inl b) = absurd (new n (b.0, b.1 ∙ sym e ∙ a.1))
+    by (inr a) (inr b) = a.0 ∙ sym b.0
 
--- the number of a name is its own
-pub known-alone : (table : List (List ℕ)) (known : BTreeMap (List ℕ) ℕ) (name : List ℕ) (n : ℕ) → IsTable table known → number_in known name ≡ Some n → IsKnown table name (Some n)
-known-alone table known name n t is = (
-  t.stands name n is,
-  λ k at. (let both : ◌≡◌ {A = Option ℕ} (Some k) (Some n) = sym (t.found k at.0) ∙ ap (number_in known) at.1 ∙ is in cc),
-)
+-- The first place of a name has it, and where there is none it stands nowhere.
+pub place-stands : (names : List (List ℕ)) (name : List ℕ) (n : ℕ) → place_of name names ≡ Some n → IsNumber names name n
+place-stands [] name n e = (let d : ◌≡◌ {A = Option ℕ} None (Some n) = e in cc)
+place-stands (first ∷ rest) name n e = by (place-stands rest name) (bytes_eq name first) refl e
+  where
+    behind : (place : Option ℕ) → ((k : ℕ) → place ≡ Some k → IsNumber rest name k) → option_map (λ k. k + 1) place ≡ Some n → IsNumber (first ∷ rest) name n
+    behind None stands e = (let d : ◌≡◌ {A = Option ℕ} None (Some n) = e in cc)
+    behind (Some k) stands e =
+        let at = stands k refl in
+        let is : suc k ≡ n = let d : ◌≡◌ {A = Option ℕ} (Some (k + 1)) (Some n) = e in let m : k + 1 ≡ n = cc in omega (arith, m) in
+        subst (IsNumber (first ∷ rest) name) is (omega (arith, at.0), at.1)
 
-pub known-found : (table : List (List ℕ)) (known : BTreeMap (List ℕ) ℕ) (name : List ℕ) (n : ℕ) → IsTable table known → IsNumber table name n → IsKnown table name (Some n)
-known-found table known name n t at = known-alone table known name n t (ap (number_in known) (sym at.1) ∙ t.found n at.0)
+    by : ((k : ℕ) → place_of name rest ≡ Some k → IsNumber rest name k) → (here : Bool) → bytes_eq name first ≡ here → cond here (Some 0) (option_map (λ k. k + 1) (place_of name rest)) ≡ Some n
+        → IsNumber (first ∷ rest) name n
+    by stands true is e =
+        let at : zero ≡ n = let d : ◌≡◌ {A = Option ℕ} (Some 0) (Some n) = e in cc in
+        subst (IsNumber (first ∷ rest) name) at (omega arith, sym ((bytes_eq-Decides name first).0 is))
+    by stands false is e = behind (place_of name rest) stands e
 
-pub known-none : (table : List (List ℕ)) (known : BTreeMap (List ℕ) ℕ) (name : List ℕ) → IsTable table known → number_in known name ≡ None → IsKnown table name None
-known-none table known name t none n at =
-    (let d : ◌≡◌ {A = Option ℕ} None (Some n) = sym none ∙ ap (number_in known) (sym at.1) ∙ t.found n at.0 in cc)
+pub place-none : (names : List (List ℕ)) (name : List ℕ) → place_of name names ≡ None → IsKnown names name None
+place-none [] name e n at = omega (arith, at.0)
+place-none (first ∷ rest) name e n at = by (place-none rest name) (bytes_eq name first) refl e n at
+  where
+    behind : (place : Option ℕ) → (place ≡ None → IsKnown rest name None) → option_map (λ k. k + 1) place ≡ None → IsKnown rest name None
+    behind None unknown e = unknown refl
+    behind (Some k) unknown e = (let d : ◌≡◌ {A = Option ℕ} (Some (k + 1)) None = e in cc)
 
--- The same table, with the same entries.
-pub table-kept : (table : List (List ℕ)) (known : BTreeMap (List ℕ) ℕ) (other : List (List ℕ)) (more : BTreeMap (List ℕ) ℕ) → IsTable table known → other ≡ table → more.entries ≡ known.entries → IsTable other more
-table-kept table known other more t is e =
-    subst (λ o. IsTable o more) (sym is)
-    (record {
-      stands = λ q n some. t.stands q n (ap (λ es. lookup (is_at (slice_cmp nat_cmp q)) es) (sym e) ∙ some);
-      found = λ n less. ap (λ es. lookup (is_at (slice_cmp nat_cmp (get_or table n []))) es) e ∙ t.found n less;
-    })
+    by : (place_of name rest ≡ None → IsKnown rest name None) → (here : Bool) → bytes_eq name first ≡ here → cond here (Some 0) (option_map (λ k. k + 1) (place_of name rest)) ≡ None
+        → (n : ℕ) → IsNumber (first ∷ rest) name n → ⊥
+    by unknown true is e n at = (let d : ◌≡◌ {A = Option ℕ} (Some 0) None = e in cc)
+    by unknown false is e zero at = false≢true (sym is ∙ (bytes_eq-Decides name first).1 (sym at.1))
+    by unknown false is e (suc n) at = behind (place_of name rest) unknown e n (omega (arith, at.0), at.1)
+
+-- what is known of a name is its first place
+pub known-place : (names : List (List ℕ)) (name : List ℕ) (number : Option ℕ) → IsKnown names name number → number ≡ place_of name names
+known-place names name number known = by number (place_of name names) known refl
+  where
+    by : (number place : Option ℕ) → IsKnown names name number → place_of name names ≡ place → number ≡ place
+    by None None known is = refl
+    by None (Some k) known is = absurd (known k (place-stands names name k is))
+    by (Some n) None known is = absurd (place-none names name is n known.0)
+    by (Some n) (Some k) known is = ap Some (sym (known.1 k (place-stands names name k is)))
 
 -- what was pushed is taken off again
 pub popped : (prefix new less : List (List ℕ)) (name : List ℕ) (len : ℕ) → new ≡ prefix ++ name ∷ [] → len ≡ length new → less ≡ take (len - 1) new → less ≡ prefix

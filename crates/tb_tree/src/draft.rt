@@ -68,17 +68,16 @@ impl Draft {
     }
 
     /// Whether an attribute of the name waits.
-    pub fn is_waiting_for(&self, name: &[u8]) -> Result<bool, AllocError>
-        ensures { (m : Made) → Shows self.now m
-            → IfOk result (λ waits. waits ≡ list_any (bytes_eq name.now) (names_of m.waiting)) }
+    pub fn is_waiting_for(&self, name: &[u8]) -> bool
+        ensures { (m : Made) → Shows self.now m → result ≡ list_any (bytes_eq name.now) (names_of m.waiting) }
     {
         if !self.is_waiting {
-            return Ok(false);
+            return false;
         }
-        let Some(number) = self.attributes.known(self.alloc, name)? else {
-            return Ok(false);
-        };
-        Ok(is_next(self.kept, waited_of(number, self.waited.as_slice())))
+        match self.attributes.known(name) {
+            Some(number) => is_next(self.kept, waited_of(number, self.waited.as_slice())),
+            None => false,
+        }
     }
 
     /// How many elements are open.

@@ -1,32 +1,30 @@
-//! Names by number.
+//! Names by number, of which those last found are at hand.
 
 ghost use Rattle.std.specs.Prelude.{◌≡◌, ◌^◌, ◌<◌, ℕ, List, [], Some, length, IfOk, IfSome, OnOk};
 ghost use Rattle.std.specs.Option.{option_map};
 ghost use Rattle.tb_tree.specs.NameTables.{AreApart, IsKnown, IsNumber, IsMore};
 
 use crate::Bytes;
+use crate::name_table::NameTable;
 use std::alloc::{AllocError, Global};
-use std::collections::BTreeMap;
 use std::marker::Model;
 
 /// Each name with its number, from 0, in the order in which they came.
 #[derive(Drop)]
 pub struct Names {
-    table: Vec<Bytes>,
-    known: BTreeMap<Bytes, u32>,
+    table: NameTable,
     /// The number last found for each of 256 fingerprints.
     recent: Vec<u32>,
 }
 
 impl Model for Names {
-    ghost use Rattle.std.specs.Prelude.{List, ℕ};
-    ghost use Rattle.tb_tree.specs.NameTables.{IsTable};
+    ghost use Rattle.std.specs.Prelude.{List, ℕ, ◌^◌, ◌≤◌, length};
 
     ghost Value = { List (List ℕ) };
 
-    ghost view = { λ names. names.table.items };
+    ghost view = { λ names. names.table };
 
-    ghost invariant = { λ names. IsTable names.table.items names.known };
+    ghost invariant = { λ names. length names.table ≤ 2 ^ 32 };
 }
 
 impl Names {
@@ -37,8 +35,7 @@ impl Names {
         let mut recent = Vec::new(alloc);
         recent.resize(256, 0)?;
         Ok(Names {
-            table: Vec::new(alloc),
-            known: BTreeMap::new(alloc),
+            table: NameTable::new(alloc),
             recent,
         })
     }
@@ -53,23 +50,19 @@ impl Names {
         if let Some(number) = self.recent_of(slot, name) {
             return Ok(number);
         }
-        let number = self.known_or_new(alloc, name)?;
+        let number = self.table.number(alloc, name)? as u32;
         note(slot, number, &mut self.recent);
         Ok(number)
     }
 
     /// The number of the name, or none where it has none.
-    pub fn known(&self, alloc: Global, name: &[u8]) -> Result<Option<u32>, AllocError>
-        ensures { IfOk result (IsKnown self.now name.now) }
+    pub fn known(&self, name: &[u8]) -> Option<u32>
+        ensures { IsKnown self.now name.now result }
     {
         if let Some(number) = self.recent_of(fingerprint(name), name) {
-            return Ok(Some(number));
+            return Some(number);
         }
-        let name = Bytes::from_vec(name.to_vec(alloc)?);
-        match self.known.get(&name) {
-            Some(number) => Ok(Some(*number)),
-            None => Ok(None),
-        }
+        Some(self.table.known(name)? as u32)
     }
 
     /// The name's number, where it is the one last found for the fingerprint.
@@ -77,36 +70,18 @@ impl Names {
         ensures { IfSome result (λ number. IsKnown self.now name.now (Some number)) }
     {
         let number = *self.recent.get(slot)?;
-        let known = self.table.get(number as usize)?;
-        if known.as_slice() == name {
+        let known = self.table.find(number as usize)?;
+        if known == name {
             return Some(number);
         }
         None
-    }
-
-    fn known_or_new(&mut self, alloc: Global, name: &[u8]) -> Result<u32, AllocError>
-        requires few { length self.old < 2 ^ 32 }
-        ensures number { IfOk result (IsNumber self.new name.now) }
-        ensures more { OnOk result (IsMore self.old self.new) }
-    {
-        let name = Bytes::from_vec(name.to_vec(alloc)?);
-        if let Some(number) = self.known.get(&name) {
-            return Ok(*number);
-        }
-        let number = self.table.len() as u32;
-        self.table.push(name.copy(alloc)?)?;
-        if let Err(refused) = self.known.insert(name, number) {
-            self.table.pop();
-            return Err(refused.into());
-        }
-        Ok(number)
     }
 
     /// The name of that number.
     pub fn find(&self, number: u32) -> Option<&[u8]>
         ensures { (name : List ℕ) → IsNumber self.now name number → option_map (λ found. found.now) result ≡ Some name }
     {
-        Some(self.table.get(number as usize)?.as_slice())
+        self.table.find(number as usize)
     }
 
     /// The names by number.
@@ -115,7 +90,7 @@ impl Names {
         ensures apart { AreApart self }
     {
         let Names { table, .. } = self;
-        table
+        table.into_names()
     }
 }
 

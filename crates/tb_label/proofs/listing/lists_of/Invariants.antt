@@ -1,5 +1,4 @@
 use Rattle.std.proofs.Common.{◌≡◌, ◌+◌, ◌++◌, drop, length, map}
-use Rattle.tb_tree.specs.NameTables.{IsTable}
 use Rattle.tb_tree.specs.Extents.{named}
 use Rattle.tb_tree.specs.declared.node_test.Test.{Test}
 use Rattle.tb_label.specs.Lists.{in_lists}
@@ -10,8 +9,8 @@ use Rattle.tb_label.proofs.listing.lists_of.Given as goal
 abbrev pub invariant-extents : goal.invariant-extents
 invariant-extents l = record {
   numbered : l.number ≡ 1 + l.extent-index;
-  elements : IsTable l.elements l.lists.elements.numbers;
-  attributes : IsTable l.attributes l.lists.attributes.numbers;
+  elements : l.lists.elements.names ≡ l.elements;
+  attributes : l.lists.attributes.names ≡ l.attributes;
   element_lists : length l.lists.elements.lists.items ≡ length l.elements;
   attribute_lists : length l.lists.attributes.lists.items ≡ length l.attributes;
   listed :
