@@ -14,17 +14,8 @@ use Rattle.tb_tree.specs.Meets.{meets}
 use Rattle.tb_tree.specs.declared.node_test.Test.{Test}
 use Rattle.tb_label.specs.Rows.{Row, rows_of, document_row, table, item_of, listed, document_label, Follows, inside, beside}
 use Rattle.tb_label.specs.Stores.{document_item_of}
-use Rattle.tb_tree.proofs.lists.Alls.{all-both, all-weaker}
+use Rattle.tb_tree.proofs.lists.Alls.{all-both, all-kept, all-weaker}
 use Rattle.tb_label.proofs.RowLaws.{IsUnder, AllFollow, all_under, all_follow, length-rows}
-
--- what holds of all elements holds of those that are kept
-kept-one : {X Y : Type 0} (Q : Y → Type 0) (f : X → Y) (x : X) (ys : List X) (keep : Bool) → Q (f x) → AllByRecursion Q (map f ys) → AllByRecursion Q (map f (if keep then x ∷ ys else ys))
-kept-one Q f x ys true q qs = (q, qs)
-kept-one Q f x ys false q qs = qs
-
-all-kept : {X Y : Type 0} (P : X → Type 0) (Q : Y → Type 0) (f : X → Y) (p : X → Bool) (xs : List X) → ((x : X) → P x → Q (f x)) → AllByRecursion P xs → AllByRecursion Q (map f (filter p xs))
-all-kept P Q f p [] step all = tt
-all-kept P Q f p (x ∷ xs) step all = kept-one Q f x (filter p xs) (p x) (step x all.0) (all-kept P Q f p xs step all.1)
 
 abbrev Rises : Row → Row → Type 0
 Rises x y = x.label.start < y.label.start
