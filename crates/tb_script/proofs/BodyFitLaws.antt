@@ -1,5 +1,5 @@
 -- The body of a load is no longer than the script.
-use Rattle.std.proofs.Common.{◌≡◌, ℕ, ◌+◌, ◌≤◌, Bool, true, false, cond, List, [], ◌∷◌, ◌++◌, map, length, flat_map, refl, ap, arith, length-append}
+use Rattle.std.proofs.Common.{◌≡◌, ℕ, ◌+◌, ◌≤◌, Bool, true, false, cond, List, [], ◌∷◌, ◌++◌, length, flat_map, refl, ap, arith, length-append}
 use Rattle.std.specs.List.{AllByRecursion}
 use Rattle.tb_tree.proofs.lists.Alls.{all-append}
 use Rattle.tb_script.specs.Lines.{whole_lines, text_of}
@@ -7,7 +7,6 @@ use Rattle.tb_script.specs.Forms.{is_dot, form_of, name_in}
 use Rattle.tb_script.specs.Entries.{Within, no_body, load_body, query_text, alone, opened, ended_by, behind, left_open, entries, entries_of}
 use Rattle.tb_script.specs.Sessions.{lined_of, is_session, prefix_turns, sessions_in}
 use Rattle.tb_script.specs.Runnable.{HasBodyThatFits}
-use Rattle.tb_script.specs.declared.command.Command.{Command}
 use Rattle.tb_script.specs.declared.form.Form.{Form}
 use Rattle.tb_script.specs.declared.form.Form.TheVariants as form
 use Rattle.tb_script.specs.declared.lined_command.LinedCommand.{LinedCommand}

@@ -1,12 +1,10 @@
 -- A body that grows by a line.
-use Rattle.std.proofs.Common.{◌≡◌, ℕ, ◌+◌, ◌-◌, true, false, List, ◌++◌, length, take, refl, sym, ap, ◌∙◌, arith, append_assoc, length-append}
-use Rattle.std.proofs.Math.Seq.{take-append_seam}
+use Rattle.std.proofs.Common.{◌≡◌, ℕ, ◌+◌, true, false, List, ◌++◌, refl, sym, ap, ◌∙◌, append_assoc}
 use Rattle.tb_script.specs.Lines.{whole_lines, text_of}
 use Rattle.tb_script.specs.Forms.{is_dot}
 use Rattle.tb_script.specs.Entries.{no_body, load_body, entry, entries}
 use Rattle.tb_script.specs.declared.entry.Said.TheVariants.{Load}
 use Rattle.tb_script.specs.Cuts.{Cut, CutsFirst}
-use Rattle.tb_tree.proofs.lists.Parts.{prefix_is}
 
 pub prefix_more : (bytes prefix rest : List ℕ) (cut : Cut) → bytes ≡ prefix ++ rest → CutsFirst rest cut → bytes ≡ (prefix ++ cut.whole) ++ cut.rest
 prefix_more bytes prefix rest cut e c = e ∙ ap (λ r. prefix ++ r) c.joined ∙ sym (append_assoc prefix cut.whole cut.rest)

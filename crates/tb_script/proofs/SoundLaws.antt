@@ -1,11 +1,12 @@
 -- What lines without a fault meet: the limits, the names, and the numbers of their marks.
-use Rattle.std.proofs.Common.{◌≡◌, ◌≢◌, ℕ, suc, ◌+◌, ◌<◌, ◌≤◌, Bool, true, false, not, cond, Option, Some, None, List, [], ◌∷◌, ◌++◌, map, length, refl, sym, ap, ap₂, ◌∙◌, arith, length-append, append_assoc}
+use Rattle.std.proofs.Common.{◌≡◌, ◌≢◌, ℕ, suc, ◌+◌, ◌<◌, ◌≤◌, Bool, true, false, cond, Option, Some, None, List, [], ◌∷◌, ◌++◌, map, length, refl, sym, ap, ap₂, ◌∙◌, arith, length-append, append_assoc}
 use Rattle.std.specs.List.{AllByRecursion, range_with_len}
-use Rattle.std.specs.Option.{is_some, option_map, option_map_or}
+use Rattle.std.specs.Option.{option_map, option_map_or}
 use Rattle.std.specs.Str.{bytes_eq}
-use Rattle.std.proofs.lemmas.Bool.{false≢true, leb-false, eqb-false}
+use Rattle.std.proofs.lemmas.Bool.{leb-false, eqb-false}
 use Rattle.tb_script.specs.Forms.{is_label}
-use Rattle.tb_script.specs.Faults.{Counts, at_start, place_of, fault_of, and_then, first_fault, or_else}
+use Rattle.tb_tree.specs.NameTables.{place_of}
+use Rattle.tb_script.specs.Faults.{Counts, at_start, fault_of, and_then, first_fault, or_else}
 use Rattle.tb_script.specs.Sessions.{told_by, marks_of, number_of, lined_of, is_session, prefix_turns, sessions_in, unknown_at, unknown_mark}
 use Rattle.tb_script.specs.Runnable.{IsNamed, HasMarkBelow, loads_of, loads_in, tells_of, tells_in, AreRunnable}
 use Rattle.tb_script.specs.declared.command.Command.{Command}

@@ -1,5 +1,5 @@
 -- Where a body may end: lines that begin with a dot.
-use Rattle.std.specs.Prelude.{◌≡◌, ℕ, ◌+◌, ◌<◌, ◌≤◌, Bool, true, false, not, ◌&&◌, ◌==◌, List, [], ◌∷◌, ◌++◌, Option, Some, None, length, take, drop}
+use Rattle.std.specs.Prelude.{◌≡◌, ℕ, ◌+◌, ◌<◌, ◌≤◌, Bool, true, false, not, ◌&&◌, ◌==◌, List, [], ◌∷◌, ◌++◌, Option, Some, None, length, take}
 use Rattle.tb_script.specs.Lines.{whole_lines}
 use Rattle.tb_script.specs.Entries.{load_body, left_open, entries}
 

@@ -1,7 +1,7 @@
 -- The fault at a line, and the first one.
 use Rattle.std.specs.Prelude.{ℕ, ◌+◌, not, nat_le, ◌==◌, if◌then◌else◌, List, [], ◌∷◌, ◌++◌, Option, Some, None}
-use Rattle.std.specs.Option.{is_some, option_map}
-use Rattle.std.specs.Str.{bytes_eq}
+use Rattle.std.specs.Option.{is_some}
+use Rattle.tb_tree.specs.NameTables.{place_of}
 use Rattle.tb_script.specs.Forms.{is_label}
 use Rattle.tb_script.specs.declared.entry.Said.{Said}
 use Rattle.tb_script.specs.declared.entry.Said.TheVariants.{Unknown, Session, Load, Query, Tell, Hear}
@@ -19,12 +19,6 @@ pub record Counts : Type 0 where
 
 abbrev pub at_start : Counts
 at_start = record { sessions = 0; commands = 0; loads = 0; told = [] }
-
--- how far in the list the bytes stand first, from 0
-abbrev pub place_of : List ℕ → List (List ℕ) → Option ℕ
-place_of name [] = None
-place_of name (first ∷ rest) =
-    if bytes_eq name first then Some 0 else option_map (λ n. n + 1) (place_of name rest)
 
 -- the tests at line n, in their order
 abbrev pub fault_of : Counts → ℕ → Said → Option ScriptFault

@@ -1,7 +1,8 @@
 -- The sessions of a script: each `session` line begins one, whose commands stand up to the next.
 use Rattle.std.specs.Prelude.{ℕ, Bool, true, false, if◌then◌else◌, List, [], ◌∷◌, ◌++◌, Option, Some, None}
 use Rattle.std.specs.Option.{option_map_or}
-use Rattle.tb_script.specs.Faults.{place_of, or_else}
+use Rattle.tb_tree.specs.NameTables.{place_of}
+use Rattle.tb_script.specs.Faults.{or_else}
 use Rattle.tb_script.specs.declared.entry.Said.{Said}
 use Rattle.tb_script.specs.declared.entry.Said.TheVariants.{Session, Load, Query, Tell, Hear}
 use Rattle.tb_script.specs.declared.entry.Entry.{Entry}

@@ -5,7 +5,8 @@ use Rattle.std.specs.BTreeMap.{get_by}
 use Rattle.std.specs.Cmp.Lexicographic.{slice_cmp}
 use Rattle.std.specs.Ordering.{nat_cmp}
 use Rattle.tb_script.specs.Entries.{entries_of}
-use Rattle.tb_script.specs.Faults.{Counts, at_start, place_of, first_fault}
+use Rattle.tb_tree.specs.NameTables.{place_of}
+use Rattle.tb_script.specs.Faults.{Counts, at_start, first_fault}
 use Rattle.tb_script.specs.Sessions.{marks_of}
 use Rattle.tb_script.specs.declared.entry.Entry.{Entry}
 use Rattle.tb_script.specs.declared.fault.ScriptFault.{ScriptFault}

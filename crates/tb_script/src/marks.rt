@@ -1,7 +1,7 @@
 //! The marks that are told, and their numbers.
 
 ghost use Rattle.std.specs.Prelude.{◌≡◌, ◌+◌, ◌^◌, ◌-◌, ◌<◌, ℕ, List, [], ◌∷◌, ◌++◌, OnOk, None};
-ghost use Rattle.tb_script.specs.Faults.{place_of};
+ghost use Rattle.tb_tree.specs.NameTables.{place_of};
 ghost use Rattle.tb_script.specs.Tallies.{Tells};
 
 use std::alloc::{AllocError, Global};

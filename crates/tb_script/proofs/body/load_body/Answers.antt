@@ -1,5 +1,5 @@
 -- The lines passed go into the body, and the first line `.` ends it.
-use Rattle.std.proofs.Common.{◌≡◌, ◌+◌, ◌-◌, [], length, take, sym, ap, ◌∙◌, arith, false, true, ◌++◌}
+use Rattle.std.proofs.Common.{◌+◌, ◌-◌, length, take, sym, ap, ◌∙◌, arith, false, true, ◌++◌}
 use Rattle.tb_script.specs.Lines.{whole_lines}
 use Rattle.tb_script.specs.Entries.{no_body, load_body, entry, entries}
 use Rattle.tb_script.specs.declared.entry.Said.TheVariants.{Load}

@@ -1,5 +1,5 @@
 -- What a search for a line end and a dot says of lines.
-use Rattle.std.proofs.Common.{◌≡◌, ◌+◌, ◌<◌, ◌≤◌, suc, true, length, sym, ◌∙◌, arith}
+use Rattle.std.proofs.Common.{◌≡◌, ◌+◌, ◌≤◌, suc, true, length, sym, ◌∙◌, arith}
 use Rattle.tb_script.proofs.DotLaws.{dotless-none, dotless-before}
 use Rattle.tb_script.proofs.body.next_dot.Goals as goal
 
