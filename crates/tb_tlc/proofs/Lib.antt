@@ -1,1 +1,12 @@
 pub mod WorkedRows
+pub mod RowLaws
+pub mod ApartLaws
+pub mod ThroughLaws
+pub mod CellLaws
+pub mod TakesLaws
+pub mod AloneLaws
+pub mod ServedLaws
+pub mod HoldsLaws
+pub mod ClauseLaws
+pub mod KeptLaws
+pub mod MergeLaws

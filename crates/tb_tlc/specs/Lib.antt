@@ -1,3 +1,5 @@
--- What plans mean, and the plans of `MATCH` queries.
+-- What plans mean, and which plans queries have.
 pub mod Meaning
 pub mod Matches
+pub mod Planned
+pub mod Returned

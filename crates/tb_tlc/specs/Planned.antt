@@ -1,0 +1,181 @@
+-- The plan of a query of clauses: what each part of it adds to the operators, and which columns it gets.
+use Rattle.std.specs.Prelude.{ℕ, ◌+◌, ◌==◌, Bool, true, false, if◌then◌else◌, List, [], ◌∷◌, ◌++◌, Option, Some, None, map, fold}
+use Rattle.tb_tree.specs.declared.against.Against.{Against}
+use Rattle.tb_tree.specs.declared.against.Against.TheVariants as against
+use Rattle.tb_tree.specs.declared.shape.Shape.{Shape}
+use Rattle.tb_tree.specs.declared.shape.Shape.TheVariants as shape
+use Rattle.tb_tree.specs.declared.shape.ShapeElem.{ShapeElem, roll-ShapeElem}
+use Rattle.tb_tree.specs.declared.shape.ShapePart.{ShapePart, roll-ShapePart}
+use Rattle.tb_tree.specs.declared.shape.ShapePart.TheOpen.{ShapePart-F}
+use Rattle.tb_tree.specs.declared.shape.ShapeAttr.{ShapeAttr}
+use Rattle.tb_tree.specs.declared.shape.ShapeContent.{ShapeContent}
+use Rattle.tb_tree.specs.declared.shape.ShapeContent.TheVariants as content_of
+use Rattle.tb_number.specs.declared.sort_key.SortKey.{SortKey}
+use Rattle.tb_number.specs.declared.agg.AggKind.{AggKind}
+use Rattle.tb_pattern.specs.declared.cond.Literal.{Literal}
+use Rattle.tb_pattern.specs.declared.cond.Literal.TheVariants as literal
+use Rattle.tb_pattern.specs.declared.pattern.Mark.{Mark}
+use Rattle.tb_pattern.specs.declared.pattern.Mark.TheVariants as mark
+use Rattle.tb_query.specs.Comparisons.{as_tested}
+use Rattle.tb_query.specs.Tuples.{Lets, standing}
+use Rattle.tb_query.specs.Parts.{PlainCons, element, PlainParts, no_parts, inner, content, PlainBack, nodes_back, cons_back, back_of}
+use Rattle.tb_query.specs.declared.path.Path.{Path}
+use Rattle.tb_query.specs.declared.path.Start.{Start}
+use Rattle.tb_query.specs.declared.path.Start.TheVariants as start
+use Rattle.tb_query.specs.declared.operand.Operand.{Operand}
+use Rattle.tb_query.specs.declared.operand.Operand.TheVariants as operand
+use Rattle.tb_query.specs.declared.operand.Right.{Right}
+use Rattle.tb_query.specs.declared.operand.Right.TheVariants as right
+use Rattle.tb_query.specs.declared.operand.Comparison.{Comparison}
+use Rattle.tb_query.specs.declared.clause.Clause.{Clause}
+use Rattle.tb_query.specs.declared.clause.Clause.TheVariants.{For, Let}
+use Rattle.tb_query.specs.declared.clause.GroupBy.{GroupBy}
+use Rattle.tb_query.specs.declared.clause.Key.{Key}
+use Rattle.tb_query.specs.declared.back.AttrPart.{AttrPart}
+use Rattle.tb_query.specs.declared.back.Content.{Content}
+use Rattle.tb_query.specs.declared.back.Content.TheVariants as given
+use Rattle.tb_query.specs.declared.query.Flwor.{Flwor}
+use Rattle.tb_tlc.specs.declared.plan.ColumnStart.{ColumnStart}
+use Rattle.tb_tlc.specs.declared.plan.ColumnStart.TheVariants.{Document, Column}
+use Rattle.tb_tlc.specs.declared.plan.Op.{Op}
+use Rattle.tb_tlc.specs.declared.plan.Op.TheVariants.{Select, Filter, Group, Aggregate, Order, Construct}
+
+-- variables with their columns, the last one bound first
+abbrev pub Columns : Type 0
+Columns = List (ℕ × ℕ)
+
+-- the column of a variable; that of one that isn't there is the next one, which isn't there either
+abbrev pub column_of : ℕ → ℕ → Columns → ℕ
+column_of next var [] = next
+column_of next var (c ∷ columns) = if var == c.0 then c.1 else column_of next var columns
+
+-- what variables stand for: a variable of `LET` for a path, any other for a column
+pub record Scope : Type 0 where
+  pub lets : Lets
+  pub columns : Columns
+
+-- where a path that starts at no variable of `LET` starts
+abbrev pub column_start : ℕ → Columns → Start → ColumnStart
+column_start next columns (start.Document name) = Document name
+column_start next columns (start.Var var) = Column (column_of next var columns)
+
+-- a column with the nodes of a path
+abbrev pub path_op : Scope → ℕ → Mark → Path → Op
+path_op s next mark path =
+    Select (column_start next s.columns (standing s.lets path).start) (standing s.lets path).steps mark
+
+-- An operand has a column for its nodes, and an aggregate one more for its value.
+abbrev pub operand_ops : Scope → ℕ → Operand → List Op
+operand_ops s next (operand.Nodes path) = path_op s next mark.Any path ∷ []
+operand_ops s next (operand.Agg kind path) = path_op s next mark.Any path ∷ Aggregate next kind ∷ []
+
+abbrev pub operand_width : Operand → ℕ
+operand_width (operand.Nodes path) = 1
+operand_width (operand.Agg kind path) = 2
+
+-- the column with the values of an operand
+abbrev pub operand_column : ℕ → Operand → ℕ
+operand_column next (operand.Nodes path) = next
+operand_column next (operand.Agg kind path) = next + 1
+
+-- The left operand of a condition, the right one where there is one, and the filter.
+abbrev pub right_ops : Scope → ℕ → Right → List Op
+right_ops s next (right.Operand o) = operand_ops s next o
+right_ops s next (right.Literal to) = []
+
+abbrev pub right_width : Right → ℕ
+right_width (right.Operand o) = operand_width o
+right_width (right.Literal to) = 0
+
+abbrev pub literal_against : Literal → Against
+literal_against (literal.Number n) = against.Number n
+literal_against (literal.Text bytes) = against.Text bytes
+
+abbrev pub right_against : ℕ → Right → Against
+right_against next (right.Operand o) = against.Column (operand_column next o)
+right_against next (right.Literal to) = literal_against to
+
+abbrev pub cond_ops : Scope → ℕ → Comparison → List Op
+cond_ops s next c =
+    operand_ops s next c.left
+    ++ (right_ops s (next + operand_width c.left) c.right
+    ++ Filter (operand_column next c.left) c.op (right_against (next + operand_width c.left) c.right) ∷ [])
+
+abbrev pub cond_width : Comparison → ℕ
+cond_width c = operand_width c.left + right_width c.right
+
+abbrev pub conds_ops : Scope → ℕ → List Comparison → List Op
+conds_ops s next [] = []
+conds_ops s next (c ∷ conds) = cond_ops s next c ++ conds_ops s (next + cond_width c) conds
+
+abbrev pub conds_width : List Comparison → ℕ
+conds_width [] = 0
+conds_width (c ∷ conds) = cond_width c + conds_width conds
+
+-- what is planned so far: operators, what variables stand for, and the next column
+pub record Draft : Type 0 where
+  pub ops : List Op
+  pub scope : Scope
+  pub next : ℕ
+
+abbrev pub for_mark : Bool → Mark
+for_mark empty = if empty then mark.Optional else mark.One
+
+-- `FOR` adds a column for its variable, and `LET` none
+abbrev pub with_clause : Draft → Clause → Draft
+with_clause d (For var empty path) = record {
+  ops = d.ops ++ path_op d.scope d.next (for_mark empty) path ∷ [];
+  scope = record { lets = d.scope.lets; columns = (var, d.next) ∷ d.scope.columns };
+  next = d.next + 1;
+}
+with_clause d (Let var path) = record {
+  ops = d.ops;
+  scope = record { lets = (var, standing d.scope.lets path) ∷ d.scope.lets; columns = d.scope.columns };
+  next = d.next;
+}
+
+abbrev pub with_clauses : List Clause → Draft
+with_clauses clauses = fold with_clause (record { ops = []; scope = record { lets = []; columns = [] }; next = 0 }) clauses
+
+-- conditions in the order in which they are tested
+abbrev pub with_conds : Draft → List Comparison → Draft
+with_conds d conds = record {
+  ops = d.ops ++ conds_ops d.scope d.next (as_tested conds);
+  scope = d.scope;
+  next = d.next + conds_width (as_tested conds);
+}
+
+-- `GROUP BY` adds a column for its path and one for its variable
+abbrev pub with_group : Draft → Option GroupBy → Draft
+with_group d None = d
+with_group d (Some by) = record {
+  ops = d.ops ++ path_op d.scope d.next mark.Any by.path ∷ Group d.next ∷ [];
+  scope = record { lets = d.scope.lets; columns = (by.var, d.next + 1) ∷ d.scope.columns };
+  next = d.next + 2;
+}
+
+-- the operands of keys, and the order by them
+abbrev pub keys_ops : Scope → ℕ → List Key → List Op
+keys_ops s next [] = []
+keys_ops s next (k ∷ keys) = operand_ops s next k.operand ++ keys_ops s (next + operand_width k.operand) keys
+
+abbrev pub keys_width : List Key → ℕ
+keys_width [] = 0
+keys_width (k ∷ keys) = operand_width k.operand + keys_width keys
+
+abbrev pub sort_keys : ℕ → List Key → List SortKey
+sort_keys next [] = []
+sort_keys next (k ∷ keys) =
+    record { column = operand_column next k.operand; descending = k.descending }
+    ∷ sort_keys (next + operand_width k.operand) keys
+
+abbrev pub order_ops : ℕ → List Key → List Op
+order_ops next [] = []
+order_ops next (k ∷ keys) = Order (sort_keys next (k ∷ keys)) ∷ []
+
+abbrev pub with_keys : Draft → List Key → Draft
+with_keys d keys = record {
+  ops = d.ops ++ (keys_ops d.scope d.next keys ++ order_ops d.next keys);
+  scope = d.scope;
+  next = d.next + keys_width keys;
+}
