@@ -57,7 +57,7 @@ module _ (docs : Docs) where
   for-rows document var false row t (u ∷ us) = node-rows document var row t (u ∷ us)
 
   -- the nodes of a path are of its document
-  path-real : (name : ℕ → List ℕ) (t : Tuple) (from : Start) (steps : List Step) → ((var : ℕ) → AllByRecursion (IsOf (found (name var) docs)) (option_to_list (bound var t) ++ []))
+  pub path-real : (name : ℕ → List ℕ) (t : Tuple) (from : Start) (steps : List Step) → ((var : ℕ) → AllByRecursion (IsOf (found (name var) docs)) (option_to_list (bound var t) ++ []))
       → AllByRecursion (IsOf (found (name_in name from) docs)) (nodes_from steps (start_in docs t from))
   path-real name t (start.Document document) steps real = path-of_root steps (found document docs)
   path-real name t (start.Var var) steps real =

@@ -10,3 +10,7 @@ pub mod HoldsLaws
 pub mod ClauseLaws
 pub mod KeptLaws
 pub mod MergeLaws
+pub mod GroupPlans
+pub mod OrderPlans
+pub mod ShapePlans
+pub mod MeansLaws

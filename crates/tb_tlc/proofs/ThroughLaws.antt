@@ -37,13 +37,13 @@ among-more same x y xs has = by (same x y)
     by true = refl
     by false = has
 
-all-among : {A : Type 0} (same : A → A → Bool) → ((x : A) → same x x ≡ true) → (xs : List A) → AllByRecursion (λ y. list_any (λ x. same x y) xs ≡ true) xs
+pub all-among : {A : Type 0} (same : A → A → Bool) → ((x : A) → same x x ≡ true) → (xs : List A) → AllByRecursion (λ y. list_any (λ x. same x y) xs ≡ true) xs
 all-among same itself [] = tt
 all-among same itself (x ∷ xs) =
     (ap (λ b. b || list_any (λ z. same z x) xs) (itself x),
     all-weaker (λ y. list_any (λ z. same z y) xs ≡ true) (λ y. list_any (λ z. same z y) (x ∷ xs) ≡ true) xs (λ y has. among-more same x y xs has) (all-among same itself xs))
 
-all-once : {A : Type 0} (P : A → Type 0) (same : A → A → Bool) (xs : List A) → AllByRecursion P xs → AllByRecursion P (each_once same xs)
+pub all-once : {A : Type 0} (P : A → Type 0) (same : A → A → Bool) (xs : List A) → AllByRecursion P xs → AllByRecursion P (each_once same xs)
 all-once P same [] all = tt
 all-once P same (x ∷ xs) all = (all.0, each-filter P (λ y. not (same x y)) (each_once same xs) (all-once P same xs all.1))
 
