@@ -14,3 +14,4 @@ pub mod GroupPlans
 pub mod OrderPlans
 pub mod ShapePlans
 pub mod MeansLaws
+pub mod WidthLaws

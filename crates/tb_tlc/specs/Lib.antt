@@ -3,3 +3,4 @@ pub mod Meaning
 pub mod Matches
 pub mod Planned
 pub mod Returned
+pub mod Scopes

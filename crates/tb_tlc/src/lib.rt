@@ -4,8 +4,14 @@
 //! means, over any documents.
 #![tactic(auto)]
 
+mod clauses;
+mod conditions;
+mod copies;
+mod operands;
+mod ordering;
 mod plan;
 mod planning;
+mod scope;
 
 pub use plan::{ColumnStart, Op, Plan};
 pub use planning::translate;
