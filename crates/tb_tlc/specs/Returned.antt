@@ -9,7 +9,7 @@ use Rattle.tb_tree.specs.declared.shape.ShapeAttr.{ShapeAttr}
 use Rattle.tb_tree.specs.declared.shape.ShapeContent.{ShapeContent}
 use Rattle.tb_tree.specs.declared.shape.ShapeContent.TheVariants as made
 use Rattle.tb_pattern.specs.declared.pattern.Mark.TheVariants as mark
-use Rattle.tb_query.specs.Parts.{PlainCons, element, PlainParts, no_parts, inner, content, PlainBack, nodes_back, cons_back, back_of}
+use Rattle.tb_query.specs.Parts.{PlainCons, element, PlainParts, no_parts, inner, content, PlainPart, constructor, given, PlainBack, nodes_back, cons_back, back_of}
 use Rattle.tb_query.specs.declared.back.AttrPart.{AttrPart}
 use Rattle.tb_query.specs.declared.back.Content.{Content}
 use Rattle.tb_query.specs.declared.back.Content.TheVariants.{Text, Operand}
@@ -75,10 +75,27 @@ abbrev mutual
   parts_shape next (content c rest) =
       roll-ShapePart (ShapePart-F.Content (content_shape next c)) ∷ parts_shape (next + content_width c) rest
 
+-- one part alone
+abbrev pub part_width : PlainPart → ℕ
+part_width (constructor c) = cons_width c
+part_width (given c) = content_width c
+
+abbrev pub part_ops : Scope → ℕ → PlainPart → List Op
+part_ops s next (constructor c) = cons_ops s next c
+part_ops s next (given c) = content_ops s next c
+
+abbrev pub part_shape : ℕ → PlainPart → ShapePart
+part_shape next (constructor c) = roll-ShapePart (ShapePart-F.Elem (cons_shape next c))
+part_shape next (given c) = roll-ShapePart (ShapePart-F.Content (content_shape next c))
+
 -- the nodes of a path, in a column, or an element
 abbrev pub back_ops : Scope → ℕ → PlainBack → List Op
 back_ops s next (nodes_back path) = path_op s next mark.Any path ∷ []
 back_ops s next (cons_back c) = cons_ops s next c
+
+abbrev pub back_width : PlainBack → ℕ
+back_width (nodes_back path) = 1
+back_width (cons_back c) = cons_width c
 
 abbrev pub back_shape : ℕ → PlainBack → Shape
 back_shape next (nodes_back path) = shape.Nodes next

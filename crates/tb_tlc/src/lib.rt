@@ -11,6 +11,7 @@ mod operands;
 mod ordering;
 mod plan;
 mod planning;
+mod returned;
 mod scope;
 
 pub use plan::{ColumnStart, Op, Plan};
