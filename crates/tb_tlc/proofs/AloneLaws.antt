@@ -2,7 +2,7 @@
 use Rattle.std.proofs.Common.{ℕ, ◌+◌, List, [], ◌∷◌, ◌++◌}
 use Rattle.std.specs.List.{AllByRecursion}
 use Rattle.tb_tree.proofs.lists.Alls.{all-append}
-use Rattle.tb_query.specs.Parts.{PlainCons, element, PlainParts, no_parts, inner, content, PlainBack, nodes_back, cons_back}
+use Rattle.tb_query.specs.Parts.{element, PlainParts, no_parts, inner, content, PlainBack, nodes_back, cons_back}
 use Rattle.tb_query.specs.declared.operand.Operand.{Operand}
 use Rattle.tb_query.specs.declared.operand.Operand.TheVariants as operand
 use Rattle.tb_query.specs.declared.operand.Right.{Right}

@@ -1,5 +1,5 @@
 -- Nodes of a document: no two of them have one number, and what is below one is of the same document.
-use Rattle.std.proofs.Common.{◌≡◌, option_to_list, ℕ, zero, suc, ◌+◌, ◌==◌, ◌<◌, ◌≤◌, Bool, true, false, not, cond, List, [], ◌∷◌, ◌++◌, All, map, filter, refl, sym, ap, ap₂, ◌∙◌, arith, Option, Some, None}
+use Rattle.std.proofs.Common.{◌≡◌, option_to_list, ℕ, zero, suc, ◌+◌, ◌==◌, ◌<◌, ◌≤◌, Bool, true, false, not, cond, List, [], ◌∷◌, ◌++◌, map, filter, refl, sym, ap, ◌∙◌, arith, Option, Some, None}
 use Rattle.std.specs.List.{list_any, range_with_len, AllByRecursion, Contains}
 use Rattle.std.proofs.lemmas.Bool.{eq-eqb, eqb-true, eqb-false, ne_eqb, or_parts}
 use Rattle.std.proofs.lemmas.List.Elements.{All-from_recursion, recursion_from_All, All-contains_itself, All-contains, Contains-append_left, Contains-append_right}
@@ -10,7 +10,7 @@ use Rattle.tb_tree.proofs.lists.Alls.{all-append, all-weaker}
 use Rattle.tb_tree.proofs.lists.Parts.{first-same}
 use Rattle.tb_query.specs.Groups.{is_same_node}
 use Rattle.tb_query.specs.Lists.{each_once}
-use Rattle.tb_query.specs.Nodes.{From, nowhere, document_node, node_at, nodes_from, nodes_below, last_numbers, chain}
+use Rattle.tb_query.specs.Nodes.{From, nowhere, document_node, node_at, nodes_from, last_numbers, chain}
 use Rattle.tb_query.specs.Tuples.{from_root, from_node}
 use Rattle.tb_pattern.specs.Witness.{choices}
 use Rattle.tb_query.specs.declared.path.Step.{Step}
@@ -120,11 +120,12 @@ below-too n (kid (elem name kids) rest) =
     let behind = all_numbered (n + 1 + counts kids) rest in
     let u : Numbered = record { number = n; node = elem name kids } in
     let left = λ (w : Numbered) (has : Contains inside w). Contains-append_right (u ∷ []) (inside ++ behind) w (Contains-append_left inside behind w has) in
-    let right = λ (w : Numbered) (has : Contains behind w). Contains-append_right (u ∷ []) (inside ++ behind) w (Contains-append_right inside behind w has) in
-    (all-weaker (Contains inside) (Contains (u ∷ (inside ++ behind))) inside left (all-themselves inside),
-    all-append (λ v. AllByRecursion (Contains (u ∷ (inside ++ behind))) (all_numbered (v.number + 1) (kids_of v.node))) inside behind
-    (wider inside (u ∷ (inside ++ behind)) inside left (below-too (n + 1) kids))
-    (wider behind (u ∷ (inside ++ behind)) behind right (below-too (n + 1 + counts kids) rest)))
+    let right = λ (w : Numbered) (has : Contains behind w). Contains-append_right (u ∷ []) (inside ++ behind) w (Contains-append_right inside behind w has) in (
+      all-weaker (Contains inside) (Contains (u ∷ (inside ++ behind))) inside left (all-themselves inside),
+      all-append (λ v. AllByRecursion (Contains (u ∷ (inside ++ behind))) (all_numbered (v.number + 1) (kids_of v.node))) inside behind
+          (wider inside (u ∷ (inside ++ behind)) inside left (below-too (n + 1) kids))
+          (wider behind (u ∷ (inside ++ behind)) behind right (below-too (n + 1 + counts kids) rest)),
+    )
 below-too n (kid (attr name value) rest) =
     let u : Numbered = record { number = n; node = attr name value } in
     let behind = all_numbered (n + 1) rest in

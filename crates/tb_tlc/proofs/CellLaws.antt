@@ -1,20 +1,19 @@
 -- Cells of rows by their columns, and nodes with the number of their document.
-use Rattle.std.proofs.Common.{◌≡◌, ◌&&◌, ℕ, zero, suc, ◌+◌, ◌==◌, ◌<◌, ◌≤◌, Bool, true, false, if◌then◌else◌, List, [], ◌∷◌, ◌++◌, length, map, refl, sym, ap, ap₂, ◌∙◌, arith, Option, Some, None, length-append}
+use Rattle.std.proofs.Common.{◌≡◌, ◌&&◌, ℕ, zero, suc, ◌+◌, ◌==◌, ◌<◌, ◌≤◌, Bool, true, false, if◌then◌else◌, List, [], ◌∷◌, ◌++◌, length, map, refl, sym, ap, ◌∙◌, arith, Some}
 use Rattle.std.specs.List.{flat_map, AllByRecursion}
 use Rattle.std.specs.Str.{bytes_eq}
 use Rattle.std.proofs.lemmas.Bool.{eq-eqb}
 use mathlib.Core.Path.{fun_ext}
 use Rattle.std.proofs.lemmas.List.Folds.{flat_map-map}
 use Rattle.std.proofs.lemmas.Simd.{map-map}
-use Rattle.std.proofs.lemmas.List.{map-append}
 use Rattle.tb_tree.specs.Documents.{Docs, found}
 use Rattle.tb_tree.specs.Numbers.{Numbered}
-use Rattle.tb_tree.specs.Rows.{NodeIn, Cell, nodes, value, Row, cell_at, nodes_of, values_of, is_same}
+use Rattle.tb_tree.specs.Rows.{NodeIn, Cell, nodes, Row, cell_at, values_of, is_same}
 use Rattle.tb_tree.specs.Value.{value_of}
-use Rattle.tb_tree.proofs.lists.Maps.{map-alike, map-flat_map}
+use Rattle.tb_tree.proofs.lists.Maps.{map-flat_map}
 use Rattle.tb_query.specs.Groups.{is_same_node}
 use Rattle.tb_query.specs.Lists.{each_once}
-use Rattle.tb_query.specs.Nodes.{nodes_from, document_node, node_at, nowhere}
+use Rattle.tb_query.specs.Nodes.{nodes_from, document_node, node_at}
 use Rattle.tb_query.specs.Operands.{values}
 use Rattle.tb_query.specs.Selected.{from_document, from_cell, stepped}
 use Rattle.tb_query.specs.Tuples.{from_root}

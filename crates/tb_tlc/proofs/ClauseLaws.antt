@@ -1,32 +1,25 @@
 -- The operators of clauses: what they make of the first row are the rows of the tuples.
-use Rattle.std.proofs.Common.{◌≡◌, ℕ, ◌+◌, Bool, true, false, if◌then◌else◌, List, [], ◌∷◌, ◌++◌, map, refl, sym, ap, ap₂, ◌∙◌, subst, arith, Option, Some, None, option_map, option_and_then, append-nil}
+use Rattle.std.proofs.Common.{◌≡◌, ℕ, ◌+◌, Bool, true, false, List, [], ◌∷◌, ◌++◌, map, refl, ap, ◌∙◌, subst, arith, Some, None, option_and_then, append-nil}
 use Rattle.std.specs.List.{flat_map, fold, AllByRecursion}
 use Rattle.std.specs.Option.{option_to_list}
 use Rattle.tb_tree.specs.Documents.{Docs, found}
 use Rattle.tb_tree.specs.Numbers.{Numbered}
-use Rattle.tb_tree.specs.Rows.{Cell, nodes, Row, first_rows}
+use Rattle.tb_tree.specs.Rows.{nodes, Row, first_rows}
 use Rattle.tb_tree.proofs.lists.Alls.{all-append, all-weaker, all-flat_map}
-use Rattle.tb_pattern.specs.declared.pattern.Mark.TheVariants as mark
-use Rattle.tb_query.specs.Comparisons.{nodes_at, passing, all_tested, as_tested}
-use Rattle.tb_query.specs.Answer.{kept_tuples}
-use Rattle.tb_query.specs.Lists.{all_given, joined}
 use Rattle.tb_query.specs.Nodes.{nodes_from}
 use Rattle.tb_query.specs.Selected.{marked, each_node}
-use Rattle.tb_query.specs.Tuples.{Tuple, Lets, Bindings, bound, bound_by, bindings, extended, standing, start_in, nodes_in}
+use Rattle.tb_query.specs.Tuples.{Tuple, Bindings, bound, bound_by, extended, standing, start_in, nodes_in}
 use Rattle.tb_query.specs.declared.path.Path.{Path}
 use Rattle.tb_query.specs.declared.path.Start.{Start}
 use Rattle.tb_query.specs.declared.path.Start.TheVariants as start
 use Rattle.tb_query.specs.declared.path.Step.{Step}
 use Rattle.tb_query.specs.declared.clause.Clause.{Clause}
 use Rattle.tb_query.specs.declared.clause.Clause.TheVariants.{For, Let}
-use Rattle.tb_query.specs.declared.operand.Comparison.{Comparison}
-use Rattle.tb_tlc.specs.Planned.{Draft, path_op, for_mark, with_clause, with_clauses, with_conds, conds_ops, conds_width}
-use Rattle.tb_tlc.proofs.RowLaws.{rows_after, rows-append, MakesRows, LooksAlone, alone-makes, each-row, each-rows}
-use Rattle.tb_tlc.proofs.AloneLaws.{alone-conds}
+use Rattle.tb_tlc.specs.Planned.{Draft, path_op, for_mark, with_clause}
+use Rattle.tb_tlc.proofs.RowLaws.{rows_after, rows-append, MakesRows, each-rows}
 use Rattle.tb_tlc.proofs.ApartLaws.{IsOf, path-of_root, path-of_maybe}
 use Rattle.tb_tlc.proofs.CellLaws.{AreThere, there-more, in_doc, place_of}
-use Rattle.tb_tlc.proofs.ServedLaws.{Serves, path_nodes, conds_cells, conds-one, wide-conds}
-use Rattle.tb_tlc.proofs.HoldsLaws.{Holds, holds-bound, holds-more, tuple-serves, name_in, place_in, named_too}
+use Rattle.tb_tlc.proofs.HoldsLaws.{Holds, holds-bound, tuple-serves, name_in, named_too}
 
 -- The operators of a draft make a row of each tuple, in order.
 pub record Plans (docs : Docs) (d : Draft) (b : Bindings) : Type 0 where

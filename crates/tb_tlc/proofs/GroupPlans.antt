@@ -1,5 +1,5 @@
 -- The operators of `GROUP BY`: they make one row of each group, which serves the paths over the group.
-use Rattle.std.proofs.Common.{◌≡◌, ◌||◌, cond, ℕ, ◌+◌, ◌==◌, Bool, true, false, if◌then◌else◌, List, [], ◌∷◌, ◌++◌, length, map, refl, sym, ap, ap₂, ◌∙◌, subst, arith, Option, Some, None, option_map, option_and_then, append-nil, length-append}
+use Rattle.std.proofs.Common.{◌≡◌, ◌||◌, cond, ℕ, ◌+◌, ◌==◌, Bool, true, false, if◌then◌else◌, List, [], ◌∷◌, ◌++◌, length, map, refl, sym, ap, ap₂, ◌∙◌, subst, arith, Option, Some, None, option_and_then, append-nil, length-append}
 use Rattle.std.specs.List.{flat_map, fold, filter, list_any, AllByRecursion}
 use Rattle.std.specs.Option.{option_to_list}
 use Rattle.std.specs.Ordering.{is_eq}
@@ -7,20 +7,19 @@ use Rattle.std.proofs.lemmas.Cmp.{tied_itself}
 use Rattle.std.proofs.lemmas.Simd.{map-map}
 use Rattle.std.proofs.lemmas.List.{length-map, map-append, map-id}
 use Rattle.std.proofs.lemmas.List.Folds.{flat_map-map}
-use Rattle.std.proofs.lemmas.List.Concat.{flat_map-append, flat_map_single}
-use Rattle.std.proofs.lemmas.List.Elements.{All-from_recursion}
+use Rattle.std.proofs.lemmas.List.Concat.{flat_map_single}
 use Rattle.tb_tree.specs.Documents.{Docs, found}
 use Rattle.tb_tree.specs.Numbers.{Numbered}
 use Rattle.tb_tree.specs.Rows.{Cell, nodes, Row, cell_at, nodes_of, values_of, is_same, first_rows}
 use Rattle.tb_tree.proofs.lists.Alls.{all-append, all-weaker, all-map, all-flat_map}
-use Rattle.tb_tree.proofs.lists.Maps.{map-alike, map-flat_map, flat_map_same}
+use Rattle.tb_tree.proofs.lists.Maps.{map-alike}
 use Rattle.tb_number.specs.Keys.{is_same_key}
 use Rattle.tb_number.proofs.KeyLaws.{key_cmp-total}
 use Rattle.tb_pattern.specs.declared.pattern.Mark.TheVariants as mark
 use Rattle.tb_query.specs.Comparisons.{nodes_at}
 use Rattle.tb_query.specs.Groups.{key_of, first_node, with_variable, grouped_by, groups_of, is_same_node, nodes_over}
 use Rattle.tb_query.specs.Lists.{each_once, grouped}
-use Rattle.tb_query.specs.Operands.{values, first_of}
+use Rattle.tb_query.specs.Operands.{first_of}
 use Rattle.tb_query.specs.Operators.{values_at, has_same_key, grouped_rows, group_row, first_cell, merged, once_cell}
 use Rattle.tb_query.specs.Selected.{selected}
 use Rattle.tb_query.specs.Tuples.{Tuple, Lets, Bindings, bound, standing, nodes_in}
@@ -150,14 +149,19 @@ module _ (docs : Docs) (name : ℕ → List ℕ) (columns : Columns) (n : ℕ) (
     where
       o : Option Numbered
       o = first_node us
+
       whole : Row
       whole = map once_cell (fold merged (row t) (map row ts))
+
       c : Cell
       c = first_cell (nodes_of (cell_at n (row t)))
+
       long : length whole ≡ n + 1
       long = length-map (fold merged (row t) (map row ts)) once_cell ∙ long-fold (row t) (map row ts) ∙ first.long
+
       longer : length (whole ++ c ∷ []) ≡ n + 1 + 1
       longer = length-append whole (c ∷ []) ∙ ap (λ k. k + 1) long
+
       cells-by : (v : ℕ) (b : Bool)
           → cell_at (if b then n + 1 else column_of (n + 1 + 1) v columns) (whole ++ c ∷ [])
           ≡ nodes (map (in_doc (place_of (if b then document else name v) 0 docs)) (each_once is_same_node (flat_map (λ x. option_to_list (if b then o else bound v x)) (t ∷ ts))))
@@ -167,6 +171,7 @@ module _ (docs : Docs) (name : ℕ → List ℕ) (columns : Columns) (n : ℕ) (
           ∙ first-cell (place_of document 0 docs) us
           ∙ ap (λ ws. nodes (map (in_doc (place_of document 0 docs)) ws)) (sym (once-again is_same_node node-itself (option_to_list o) ts ∙ once-maybe o))
       cells-by v false = cell-more (n + 1) (n + 1 + 1) v columns whole (c ∷ []) there long longer ∙ merged-cell v t ts first each
+
       real-by : (v : ℕ) (b : Bool) → AllByRecursion (IsOf (found (if b then document else name v) docs)) (flat_map (λ x. option_to_list (if b then o else bound v x)) (t ∷ ts))
       real-by v true =
           all-flat_map (IsOf (found document docs)) (λ x. option_to_list o) (t ∷ ts)

@@ -1,5 +1,5 @@
 -- Rows that hold what the variables of a group of tuples stand for. One tuple is a group of its own.
-use Rattle.std.proofs.Common.{◌≡◌, ℕ, ◌+◌, ◌==◌, Bool, true, false, if◌then◌else◌, List, [], ◌∷◌, ◌++◌, length, map, refl, sym, ap, ap₂, ◌∙◌, subst, arith, Option, Some, None, append-nil, length-append}
+use Rattle.std.proofs.Common.{◌≡◌, ℕ, ◌+◌, ◌==◌, Bool, true, false, if◌then◌else◌, List, [], ◌∷◌, ◌++◌, length, map, refl, sym, ap, ap₂, ◌∙◌, subst, Option, Some, None, append-nil, length-append}
 use Rattle.std.specs.List.{flat_map, AllByRecursion}
 use Rattle.std.specs.Option.{option_to_list}
 use Rattle.std.proofs.lemmas.List.Concat.{flat_map-append}
@@ -136,13 +136,16 @@ holds-bound docs name columns n t row var document o there holds of =
   where
     c : Cell
     c = nodes (map (in_doc (place_of document 0 docs)) (option_to_list o))
+
     longer : length (row ++ c ∷ []) ≡ n + 1
     longer = length-append row (c ∷ []) ∙ ap (λ k. k + 1) holds.long
+
     cells-by : (v : ℕ) (b : Bool)
         → cell_at (if b then n else column_of (n + 1) v columns) (row ++ c ∷ [])
         ≡ nodes (map (in_doc (place_of (if b then document else name v) 0 docs)) (each_once is_same_node (option_to_list (if b then o else bound v t) ++ [])))
     cells-by v true = cell-next n row c [] holds.long ∙ ap (λ us. nodes (map (in_doc (place_of document 0 docs)) us)) (sym (once-maybe o))
     cells-by v false = cell-more n (n + 1) v columns row (c ∷ []) there holds.long longer ∙ holds.cells v
+
     real-by : (v : ℕ) (b : Bool) → AllByRecursion (IsOf (found (if b then document else name v) docs)) (option_to_list (if b then o else bound v t) ++ [])
     real-by v true = all-append (IsOf (found document docs)) (option_to_list o) [] of tt
     real-by v false = holds.real v

@@ -1,4 +1,5 @@
 pub mod WorkedRows
+pub mod PlanRows
 pub mod RowLaws
 pub mod ApartLaws
 pub mod ThroughLaws
@@ -15,3 +16,4 @@ pub mod OrderPlans
 pub mod ShapePlans
 pub mod MeansLaws
 pub mod WidthLaws
+pub mod SizeLaws

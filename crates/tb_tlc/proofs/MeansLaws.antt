@@ -1,15 +1,15 @@
 -- The plan of a query of clauses means what the query means, over any documents.
-use Rattle.std.proofs.Common.{◌≡◌, ℕ, ◌+◌, List, [], ◌∷◌, ◌++◌, map, refl, sym, ap, ap₂, ◌∙◌, Option, Some, None, option_map, option_and_then}
+use Rattle.std.proofs.Common.{◌≡◌, ℕ, List, [], ◌∷◌, ◌++◌, map, refl, sym, ap, ◌∙◌, Option, Some, None, option_map, option_and_then}
 use Rattle.std.specs.List.{AllByRecursion}
 use Rattle.tb_tree.specs.Documents.{Docs}
 use Rattle.tb_tree.specs.Plain.{Plain}
 use Rattle.tb_tree.specs.Rows.{Row, first_rows}
 use Rattle.tb_tree.specs.declared.shape.Shape.{Shape}
 use Rattle.tb_tree.proofs.lists.Alls.{all-append, all-weaker}
-use Rattle.tb_query.specs.Answer.{kept_tuples, ordered_groups, trees_of_groups, bound_trees, flwor_trees}
+use Rattle.tb_query.specs.Answer.{kept_tuples, ordered_groups, trees_of_groups, bound_trees, flwor_trees, counted, answer}
 use Rattle.tb_query.specs.Comparisons.{as_tested}
 use Rattle.tb_query.specs.Groups.{groups_of, nodes_over}
-use Rattle.tb_query.specs.Lists.{all_given, joined, sorted}
+use Rattle.tb_query.specs.Lists.{all_given, sorted}
 use Rattle.tb_query.specs.Order.{SortValue, sort_values_cmp, keyed}
 use Rattle.tb_query.specs.Parts.{PlainBack, back_of}
 use Rattle.tb_query.specs.Results.{group_trees}
@@ -19,12 +19,14 @@ use Rattle.tb_query.specs.declared.clause.GroupBy.{GroupBy}
 use Rattle.tb_query.specs.declared.clause.Key.{Key}
 use Rattle.tb_query.specs.declared.operand.Comparison.{Comparison}
 use Rattle.tb_query.specs.declared.query.Flwor as flwor
+use Rattle.tb_query.specs.declared.query.Query.{Query}
+use Rattle.tb_query.specs.declared.query.Query.TheVariants as queries
 use Rattle.tb_pattern.specs.declared.pattern.Mark.TheVariants as mark
-use Rattle.tb_tlc.specs.declared.plan.Op.{Op}
 use Rattle.tb_tlc.specs.declared.plan.Op.TheVariants.{Group, Construct}
-use Rattle.tb_tlc.specs.Meaning.{trees_after, plan_trees}
+use Rattle.tb_tlc.specs.Meaning.{trees_after, plan_trees, meaning}
 use Rattle.tb_tlc.specs.Planned.{Draft, path_op, conds_ops, keys_ops, order_ops, with_conds, with_group, with_keys}
 use Rattle.tb_tlc.specs.Returned.{back_ops, back_shape, planned, planned_flwor}
+use Rattle.tb_tlc.specs.Translated.{translated}
 use Rattle.tb_tlc.proofs.RowLaws.{rows_after, rows-append, trees-append, MakesRows, LooksAlone, alone-makes, each-trees}
 use Rattle.tb_tlc.proofs.AloneLaws.{alone-conds, alone-keys, alone-back}
 use Rattle.tb_tlc.proofs.ServedLaws.{Serves}
@@ -142,3 +144,8 @@ module _ (docs : Docs) where
   plan-means q =
       plan-trees _ (bindings docs q.clauses) q (back_of q.back)
       (clauses-plan docs (record { ops = []; scope = record { lets = []; columns = [] }; next = 0 }) (record { tuples = [] ∷ []; lets = [] }) q.clauses (first-plans docs))
+
+-- and so does the plan of any query
+pub translated-means : (q : Query) (docs : Docs) → meaning docs (translated q) ≡ answer docs q
+translated-means (queries.Match p) docs = refl
+translated-means (queries.Flwor q) docs = ap (option_map counted) (plan-means docs q)

@@ -1,13 +1,13 @@
 -- Rows of a group as one row: a column that has nodes in the rows has them all, each once.
-use Rattle.std.proofs.Common.{◌≡◌, ℕ, zero, suc, ◌+◌, ◌<◌, ◌≤◌, Bool, List, [], ◌∷◌, ◌++◌, length, map, refl, sym, ap, ap₂, ◌∙◌, arith, Option, append_assoc, append-nil}
+use Rattle.std.proofs.Common.{◌≡◌, ℕ, zero, suc, Bool, List, [], ◌∷◌, ◌++◌, length, map, refl, sym, ap, ◌∙◌, arith, append_assoc, append-nil}
 use Rattle.std.specs.List.{flat_map, fold, filter, AllByRecursion}
 use Rattle.std.proofs.lemmas.List.Elements.{All-from_recursion}
-use Rattle.tb_tree.specs.Rows.{NodeIn, Cell, nodes, value, Row, cell_at, nodes_of, is_same}
+use Rattle.tb_tree.specs.Rows.{NodeIn, nodes, Row, cell_at, nodes_of, is_same}
 use Rattle.tb_tree.proofs.lists.Maps.{map-alike, map_same}
 use Rattle.tb_tree.proofs.lists.Filters.{filter_same}
 use Rattle.tb_tree.proofs.lists.Alls.{all-weaker}
 use Rattle.tb_query.specs.Lists.{each_once, grouped}
-use Rattle.tb_query.specs.Operators.{merged_cell, merged, once_cell, first_cell, group_row}
+use Rattle.tb_query.specs.Operators.{merged_cell, merged, once_cell}
 use Rattle.tb_query.proofs.GroupLaws.{grouped-for, groups_for}
 
 -- each cell of two rows as one

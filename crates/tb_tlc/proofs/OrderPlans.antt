@@ -1,9 +1,8 @@
 -- The operators of `ORDER BY`: the columns of the keys, and the rows in their order.
-use Rattle.std.proofs.Common.{◌≡◌, ℕ, ◌+◌, Bool, true, false, if◌then◌else◌, List, [], ◌∷◌, ◌++◌, length, map, refl, sym, ap, ap₂, ◌∙◌, subst, arith, Option, Some, None, option_map, option_and_then, append-nil, length-append}
+use Rattle.std.proofs.Common.{◌≡◌, ℕ, ◌+◌, Bool, true, false, if◌then◌else◌, List, [], ◌∷◌, ◌++◌, map, refl, sym, ap, ◌∙◌, subst, Option, Some, None, option_map, option_and_then, append-nil}
 use Rattle.std.specs.List.{AllByRecursion}
 use Rattle.std.specs.Ordering.{is_gt}
 use Rattle.std.specs.declared.cmp.Ordering.{Ordering}
-use Rattle.std.specs.declared.cmp.Ordering.TheVariants.{Equal}
 use Rattle.std.proofs.lemmas.Option.{none-some, same_Some}
 use Rattle.std.proofs.lemmas.Simd.{map-map}
 use Rattle.std.proofs.lemmas.List.{map-id}
@@ -12,18 +11,15 @@ use Rattle.tb_tree.specs.Documents.{Docs}
 use Rattle.tb_tree.specs.Numbers.{Numbered}
 use Rattle.tb_tree.specs.Rows.{Cell, Row, first_rows}
 use Rattle.tb_tree.proofs.lists.Alls.{all-append, all-weaker, all-map}
-use Rattle.tb_tree.proofs.lists.Maps.{map-alike, map_same}
-use Rattle.tb_query.specs.Answer.{ordered_groups}
+use Rattle.tb_tree.proofs.lists.Maps.{map_same}
 use Rattle.tb_query.specs.Groups.{nodes_over}
 use Rattle.tb_query.specs.Lists.{with_sorted, sorted, all_given, joined}
 use Rattle.tb_query.specs.Operands.{operand_values, first_of}
-use Rattle.tb_query.specs.Operators.{values_at, row_keys, ordered_rows}
+use Rattle.tb_query.specs.Operators.{values_at, row_keys}
 use Rattle.tb_query.specs.Order.{SortValue, sort_values_cmp, sort_value, keyed}
 use Rattle.tb_query.specs.Tuples.{Tuple, Lets}
 use Rattle.tb_query.specs.declared.clause.Key.{Key}
 use Rattle.tb_query.specs.declared.path.Path.{Path}
-use Rattle.tb_tlc.specs.declared.plan.Op.{Op}
-use Rattle.tb_tlc.specs.declared.plan.Op.TheVariants.{Order}
 use Rattle.tb_tlc.specs.Planned.{Scope, Draft, operand_ops, operand_width, operand_column, keys_ops, keys_width, sort_keys, order_ops, with_keys}
 use Rattle.tb_tlc.proofs.RowLaws.{rows_after, rows-append, MakesRows, LooksAlone, alone-makes, each-row}
 use Rattle.tb_tlc.proofs.AloneLaws.{alone-keys}
@@ -178,6 +174,7 @@ module _ (docs : Docs) (d : Draft) (lets : Lets) (groups : List (List Tuple)) (s
     where
       row_of : List SortValue × List Tuple → Row
       row_of k = keyed_row k.1
+
       by : (some : List Key) → keys ≡ some
           → rows_after docs (order_ops d.next some) (map (λ (k : List SortValue × List Tuple). keyed_row k.1) ks)
           ≡ Some (map (λ (k : List SortValue × List Tuple). keyed_row k.1) (sorted (λ k l. sort_values_cmp (row_keys (sort_keys d.next some) (keyed_row k.1)) (row_keys (sort_keys d.next some) (keyed_row l.1))) ks))

@@ -1,7 +1,7 @@
 -- What operators do to rows, one after the other. Some look at each row alone: what they make of rows is what
 -- they make of each of them, put one behind the other.
 use Rattle.std.proofs.Common.{◌≡◌, List, [], ◌∷◌, ◌++◌, map, refl, sym, ap, ap₂, ◌∙◌, Option, Some, None, option_map, option_and_then}
-use Rattle.std.specs.List.{flat_map, filter, AllByRecursion}
+use Rattle.std.specs.List.{flat_map, AllByRecursion}
 use Rattle.std.specs.Bool.{⊤}
 use Rattle.std.proofs.lemmas.List.{map-append}
 use Rattle.std.proofs.lemmas.List.Concat.{flat_map-append}

@@ -5,12 +5,11 @@ use Rattle.std.proofs.lemmas.List.{length-map}
 use Rattle.std.proofs.lemmas.Option.{none-some, same_Some}
 use Rattle.tb_tree.specs.Value.{value_of}
 use Rattle.tb_tlc.proofs.AloneLaws.{alone-conds}
-use Rattle.std.specs.List.{AllByRecursion}
 use Rattle.std.specs.Option.{option_to_list}
 use Rattle.std.specs.Prelude.{pos}
 use Rattle.tb_tree.specs.Documents.{Docs}
 use Rattle.tb_tree.specs.Numbers.{Numbered}
-use Rattle.tb_tree.specs.Rows.{NodeIn, Cell, nodes, value, Row, cell_at, nodes_of, values_of}
+use Rattle.tb_tree.specs.Rows.{NodeIn, Cell, nodes, value, Row, cell_at, values_of}
 use Rattle.tb_number.specs.Canonical.{canonical_text}
 use Rattle.tb_number.specs.declared.agg.AggKind.{AggKind}
 use Rattle.tb_number.specs.declared.agg.AggKind.TheVariants.{Count, Sum, Min, Max}
@@ -35,11 +34,10 @@ use Rattle.tb_query.specs.declared.operand.Comparison.{Comparison}
 use Rattle.tb_tlc.specs.declared.plan.Op.{Op}
 use Rattle.tb_tlc.specs.declared.plan.Op.TheVariants.{Aggregate, Filter}
 use Rattle.tb_tlc.specs.Meaning.{column_from}
-use Rattle.tb_tlc.specs.Planned.{Scope, Columns, column_of, column_start, path_op, operand_ops, operand_width, operand_column, right_ops, right_width, right_against, cond_ops, cond_width, conds_ops, conds_width}
-use Rattle.tb_tlc.proofs.RowLaws.{rows_after, rows-append, after-none, LooksAlone}
+use Rattle.tb_tlc.specs.Planned.{Scope, Columns, column_start, path_op, operand_ops, operand_width, operand_column, right_ops, right_width, right_against, cond_ops, cond_width, conds_ops, conds_width}
+use Rattle.tb_tlc.proofs.RowLaws.{rows_after, rows-append, after-none}
 use Rattle.tb_tlc.proofs.CellLaws.{AreThere, there-more, cell-next, cell-more, in_doc, values-in}
-use Rattle.tb_tlc.proofs.TakesLaws.{Takes, takes-none, takes-map, takes-is, takes-read, takes-both, takes-filter}
-use Rattle.tb_tree.proofs.lists.Alls.{all-append}
+use Rattle.tb_tlc.proofs.TakesLaws.{Takes, takes-map, takes-is, takes-read, takes-both, takes-filter}
 
 -- the nodes that a path has, started in a row
 abbrev pub path_nodes : Docs → Scope → ℕ → Path → Row → List NodeIn
@@ -204,6 +202,7 @@ module _ (docs : Docs) (s : Scope) (at : Path → ℕ) (given : Path → List Nu
       literal : (to : literal_type.Literal) (x : Row) → stands_against op (values_at (operand_column n left) x) (right_against (n + operand_width left) (right.Literal to)) x ≡ some_stand_to op (values_at (operand_column n left) x) to
       literal (literals.Number k) x = refl
       literal (literals.Text bytes) x = refl
+
       nothing_more : {V : Type 0} {ops : List Op} {w : ℕ} {cells : List Cell} {taken : Option V} {read : Row → V} → Takes docs row ops w cells taken read → Takes docs row (ops ++ []) (w + 0) (cells ++ []) taken read
       nothing_more {V} {ops} {w} {cells} {taken} {read} t =
           subst (λ o. Takes docs row o (w + 0) (cells ++ []) taken read) (sym (append-nil ops))

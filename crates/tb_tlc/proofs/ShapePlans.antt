@@ -1,12 +1,12 @@
 -- The operators of what is returned, and the trees that its shape makes of a row.
-use Rattle.std.proofs.Common.{◌≡◌, ℕ, ◌+◌, List, [], ◌∷◌, ◌++◌, length, map, refl, sym, ap, ap₂, ◌∙◌, subst, arith, Option, Some, None, option_map, option_and_then, append-nil, rules}
+use Rattle.std.proofs.Common.{◌≡◌, ℕ, ◌+◌, List, [], ◌∷◌, ◌++◌, map, refl, sym, ap, ◌∙◌, Option, Some, None, option_map, append-nil, rules}
 use Rattle.std.specs.List.{flat_map, filter, join_with_byte}
 use Rattle.std.specs.Option.{option_to_list}
 use Rattle.std.proofs.lemmas.Simd.{map-map}
 use Rattle.tb_tree.specs.Documents.{Docs}
 use Rattle.tb_tree.specs.Numbers.{Numbered}
 use Rattle.tb_tree.specs.Plain.{Plain, Plains, attr, text, plains, kid, joined_kids}
-use Rattle.tb_tree.specs.Rows.{Cell, nodes, value, Row, cell_at, nodes_of, values_of}
+use Rattle.tb_tree.specs.Rows.{Cell, value, Row, cell_at, nodes_of}
 use Rattle.tb_tree.specs.declared.shape.Shape.TheVariants as shapes
 use Rattle.tb_tree.specs.declared.shape.ShapeElem.{ShapeElem, roll-ShapeElem, the_lemmas}
 use Rattle.tb_tree.specs.declared.shape.ShapePart.{ShapePart, roll-ShapePart, fold-ShapePart}
@@ -25,9 +25,7 @@ use Rattle.tb_query.specs.declared.back.AttrPart.{AttrPart}
 use Rattle.tb_query.specs.declared.back.Content as contents
 use Rattle.tb_query.specs.declared.back.Content.TheVariants as of_content
 use Rattle.tb_query.specs.declared.path.Path.{Path}
-use Rattle.tb_pattern.specs.declared.pattern.Mark.TheVariants as mark
-use Rattle.tb_tlc.specs.declared.plan.Op.{Op}
-use Rattle.tb_tlc.specs.Planned.{Scope, path_op, operand_ops, operand_width, operand_column}
+use Rattle.tb_tlc.specs.Planned.{Scope, operand_ops, operand_width, operand_column}
 use Rattle.tb_tlc.specs.Returned.{content_ops, content_width, content_shape, attrs_ops, attrs_width, attrs_shape, cons_ops, cons_width, cons_shape, parts_ops, parts_width, parts_shape, back_ops, back_shape}
 use Rattle.tb_tlc.proofs.RowLaws.{rows_after}
 use Rattle.tb_tlc.proofs.CellLaws.{in_doc}

@@ -1,8 +1,7 @@
 -- Items each once, through functions that give lists: it is enough to take each item once before.
-use Rattle.std.proofs.Common.{◌≡◌, Bool, true, false, not, ◌&&◌, ◌||◌, cond, List, [], ◌∷◌, ◌++◌, All, map, filter, refl, sym, ap, ap₂, ◌∙◌, append-nil}
+use Rattle.std.proofs.Common.{◌≡◌, Bool, true, false, not, ◌&&◌, ◌||◌, cond, List, [], ◌∷◌, ◌++◌, filter, refl, sym, ap, ap₂, ◌∙◌, append-nil}
 use Rattle.std.specs.List.{list_any, flat_map, AllByRecursion}
 use Rattle.std.proofs.lemmas.List.Elements.{All-from_recursion, filter-append}
-use Rattle.std.proofs.lemmas.List.Concat.{flat_map-append}
 use Rattle.tb_tree.proofs.lists.Alls.{all-append, all-weaker}
 use Rattle.tb_tree.proofs.lists.Filters.{filter_none, filter_swap}
 use Rattle.tb_query.specs.Lists.{each_once}
@@ -39,9 +38,10 @@ among-more same x y xs has = by (same x y)
 
 pub all-among : {A : Type 0} (same : A → A → Bool) → ((x : A) → same x x ≡ true) → (xs : List A) → AllByRecursion (λ y. list_any (λ x. same x y) xs ≡ true) xs
 all-among same itself [] = tt
-all-among same itself (x ∷ xs) =
-    (ap (λ b. b || list_any (λ z. same z x) xs) (itself x),
-    all-weaker (λ y. list_any (λ z. same z y) xs ≡ true) (λ y. list_any (λ z. same z y) (x ∷ xs) ≡ true) xs (λ y has. among-more same x y xs has) (all-among same itself xs))
+all-among same itself (x ∷ xs) = (
+  ap (λ b. b || list_any (λ z. same z x) xs) (itself x),
+  all-weaker (λ y. list_any (λ z. same z y) xs ≡ true) (λ y. list_any (λ z. same z y) (x ∷ xs) ≡ true) xs (λ y has. among-more same x y xs has) (all-among same itself xs),
+)
 
 pub all-once : {A : Type 0} (P : A → Type 0) (same : A → A → Bool) (xs : List A) → AllByRecursion P xs → AllByRecursion P (each_once same xs)
 all-once P same [] all = tt

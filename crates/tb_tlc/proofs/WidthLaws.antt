@@ -1,5 +1,5 @@
 -- Operators and columns of conditions that stand behind others.
-use Rattle.std.proofs.Common.{◌≡◌, ℕ, ◌+◌, List, [], ◌∷◌, ◌++◌, refl, sym, ap, ap₂, ◌∙◌, arith, append_assoc}
+use Rattle.std.proofs.Common.{◌≡◌, ℕ, ◌+◌, List, [], ◌∷◌, ◌++◌, sym, ap, ◌∙◌, arith, append_assoc}
 use Rattle.tb_query.specs.declared.operand.Comparison.{Comparison}
 use Rattle.tb_tlc.specs.Planned.{Scope, cond_ops, cond_width, conds_ops, conds_width}
 

@@ -13,7 +13,7 @@ use Rattle.tb_pattern.specs.declared.pattern.Mark.TheVariants.{One, Any}
 use Rattle.tb_query.specs.declared.path.Step.{Step}
 use Rattle.tb_tlc.specs.declared.plan.ColumnStart.TheVariants.{Document, Column}
 use Rattle.tb_tlc.specs.declared.plan.Op.TheVariants.{Select, Filter, Construct}
-use Rattle.tb_tlc.specs.Meaning.{meaning, plan_trees}
+use Rattle.tb_tlc.specs.Meaning.{plan_trees}
 
 -- two items with a number each
 abbrev documents : Docs

@@ -4,3 +4,4 @@ pub mod Matches
 pub mod Planned
 pub mod Returned
 pub mod Scopes
+pub mod Translated

@@ -1,6 +1,6 @@
 -- What a plan means over documents: its operators one after the other, from the table with one row and no
 -- column. `None` says that a sum is past the range of signed numbers of 128 bits.
-use Rattle.std.specs.Prelude.{ℕ, List, [], ◌∷◌, Option, Some, None, option_map, option_and_then}
+use Rattle.std.specs.Prelude.{ℕ, List, [], ◌∷◌, Option, Some, option_map, option_and_then}
 use Rattle.tb_tree.specs.Documents.{Docs, found}
 use Rattle.tb_tree.specs.Plain.{Plain}
 use Rattle.tb_tree.specs.Rows.{Row, first_rows}

@@ -1,24 +1,14 @@
 -- The plan of a query of clauses: what each part of it adds to the operators, and which columns it gets.
-use Rattle.std.specs.Prelude.{ℕ, ◌+◌, ◌==◌, Bool, true, false, if◌then◌else◌, List, [], ◌∷◌, ◌++◌, Option, Some, None, map, fold}
+use Rattle.std.specs.Prelude.{ℕ, ◌+◌, ◌==◌, Bool, if◌then◌else◌, List, [], ◌∷◌, ◌++◌, Option, Some, None, fold}
 use Rattle.tb_tree.specs.declared.against.Against.{Against}
 use Rattle.tb_tree.specs.declared.against.Against.TheVariants as against
-use Rattle.tb_tree.specs.declared.shape.Shape.{Shape}
-use Rattle.tb_tree.specs.declared.shape.Shape.TheVariants as shape
-use Rattle.tb_tree.specs.declared.shape.ShapeElem.{ShapeElem, roll-ShapeElem}
-use Rattle.tb_tree.specs.declared.shape.ShapePart.{ShapePart, roll-ShapePart}
-use Rattle.tb_tree.specs.declared.shape.ShapePart.TheOpen.{ShapePart-F}
-use Rattle.tb_tree.specs.declared.shape.ShapeAttr.{ShapeAttr}
-use Rattle.tb_tree.specs.declared.shape.ShapeContent.{ShapeContent}
-use Rattle.tb_tree.specs.declared.shape.ShapeContent.TheVariants as content_of
 use Rattle.tb_number.specs.declared.sort_key.SortKey.{SortKey}
-use Rattle.tb_number.specs.declared.agg.AggKind.{AggKind}
 use Rattle.tb_pattern.specs.declared.cond.Literal.{Literal}
 use Rattle.tb_pattern.specs.declared.cond.Literal.TheVariants as literal
 use Rattle.tb_pattern.specs.declared.pattern.Mark.{Mark}
 use Rattle.tb_pattern.specs.declared.pattern.Mark.TheVariants as mark
 use Rattle.tb_query.specs.Comparisons.{as_tested}
 use Rattle.tb_query.specs.Tuples.{Lets, standing}
-use Rattle.tb_query.specs.Parts.{PlainCons, element, PlainParts, no_parts, inner, content, PlainBack, nodes_back, cons_back, back_of}
 use Rattle.tb_query.specs.declared.path.Path.{Path}
 use Rattle.tb_query.specs.declared.path.Start.{Start}
 use Rattle.tb_query.specs.declared.path.Start.TheVariants as start
@@ -31,14 +21,10 @@ use Rattle.tb_query.specs.declared.clause.Clause.{Clause}
 use Rattle.tb_query.specs.declared.clause.Clause.TheVariants.{For, Let}
 use Rattle.tb_query.specs.declared.clause.GroupBy.{GroupBy}
 use Rattle.tb_query.specs.declared.clause.Key.{Key}
-use Rattle.tb_query.specs.declared.back.AttrPart.{AttrPart}
-use Rattle.tb_query.specs.declared.back.Content.{Content}
-use Rattle.tb_query.specs.declared.back.Content.TheVariants as given
-use Rattle.tb_query.specs.declared.query.Flwor.{Flwor}
 use Rattle.tb_tlc.specs.declared.plan.ColumnStart.{ColumnStart}
 use Rattle.tb_tlc.specs.declared.plan.ColumnStart.TheVariants.{Document, Column}
 use Rattle.tb_tlc.specs.declared.plan.Op.{Op}
-use Rattle.tb_tlc.specs.declared.plan.Op.TheVariants.{Select, Filter, Group, Aggregate, Order, Construct}
+use Rattle.tb_tlc.specs.declared.plan.Op.TheVariants.{Select, Filter, Group, Aggregate, Order}
 
 -- variables with their columns, the last one bound first
 abbrev pub Columns : Type 0

@@ -1,6 +1,6 @@
 //! Plans of queries: operators over one table, and what they mean over documents.
 //!
-//! `translate` makes the plan of a `MATCH` query. What is proved is that the plan means what the query
+//! `translate` makes the plan of a query. What is proved is that the plan means what the query
 //! means, over any documents.
 #![tactic(auto)]
 

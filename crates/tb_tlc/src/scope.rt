@@ -31,11 +31,7 @@ impl Scope {
 }
 
 /// The path that a path stands for.
-pub fn standing(
-    alloc: Global,
-    lets: &[(u32, Path)],
-    path: &Path,
-) -> Result<Path, AllocError>
+pub fn standing(alloc: Global, lets: &[(u32, Path)], path: &Path) -> Result<Path, AllocError>
     ensures { IfOk result (λ p. p ≡ standing lets.now path.now) }
 {
     match &path.start {

@@ -1,4 +1,4 @@
-use Rattle.std.proofs.Common.{◌≡◌, ◌++◌, ◌+◌, not, sym, ap, ◌∙◌, arith, append_assoc}
+use Rattle.std.proofs.Common.{◌++◌, ◌+◌, not, sym, ap, ◌∙◌, arith, append_assoc}
 use Rattle.std.specs.List.{filter}
 use Rattle.tb_query.specs.Comparisons.{has_sum}
 use Rattle.tb_tlc.specs.Planned.{conds_ops, conds_width}
