@@ -1,7 +1,7 @@
 -- What is appended piece by piece makes the printed lines.
-use Rattle.std.proofs.Common.{◌≡◌, ℕ, ◌≤◌, Bool, true, false, ◌&&◌, ◌||◌, not, nat_le, ◌==◌, List, [], ◌∷◌, ◌++◌, refl, sym, ap, ap₂, ◌∙◌, arith, append_assoc}
+use Rattle.std.proofs.Common.{◌≡◌, ℕ, zero, suc, ◌+◌, take, drop, ◌≤◌, Bool, true, false, ◌&&◌, ◌||◌, not, nat_le, ◌==◌, List, [], ◌∷◌, ◌++◌, refl, sym, ap, ap₂, ◌∙◌, subst, arith, append_assoc}
 use Rattle.std.specs.List.{list_all}
-use Rattle.std.proofs.lemmas.Bool.{and_parts, not-true, leb-true, le-ltb, ne_eqb}
+use Rattle.std.proofs.lemmas.Bool.{and_parts, and_from, not-true, leb-true, le-ltb, ne_eqb}
 use Rattle.std.proofs.lemmas.List.Folds.{list_all-append}
 use Rattle.std.proofs.lemmas.Grind.{flat_map-append}
 use Rattle.tb_tree.specs.Printed.{escaped, escaped_byte}
@@ -49,3 +49,13 @@ told-more false here whole is e = sym is ∙ e
 pub told-end : (before plain whole : Bool) → plain ≡ true → (before || not plain) ≡ whole → before ≡ whole
 told-end true plain whole is e = e
 told-end false plain whole is e = ap not (sym is) ∙ e
+
+-- plain bytes, and a block of such behind them
+pub plain-block : (bytes : List ℕ) (at n m : ℕ) → m ≡ at + n → list_all is_plain (take at bytes) ≡ true → list_all is_plain (take n (drop at bytes)) ≡ true → list_all is_plain (take m bytes) ≡ true
+plain-block bytes zero n m is front block = subst (λ k. list_all is_plain (take k bytes) ≡ true) (let e : n ≡ m = omega (arith, is) in e) block
+plain-block [] (suc at) n zero is front block = refl
+plain-block [] (suc at) n (suc m) is front block = refl
+plain-block (b ∷ bytes) (suc at) n zero is front block = refl
+plain-block (b ∷ bytes) (suc at) n (suc m) is front block =
+    let parts = and_parts (is_plain b) (list_all is_plain (take at bytes)) front in
+    and_from _ _ parts.0 (plain-block bytes at n m (omega (arith, is)) parts.1 block)

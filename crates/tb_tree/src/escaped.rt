@@ -1,11 +1,15 @@
 //! Values and data as they print, with their escapes.
 
-ghost use Rattle.std.specs.Prelude.{◌≡◌, ◌++◌, false, IfOk, OnOk};
+ghost use Rattle.std.specs.Prelude.{◌≡◌, ◌≤◌, ◌++◌, true, false, take, length, IfOk, OnOk};
 ghost use Rattle.std.specs.Option.{option_map};
+ghost use Rattle.std.specs.List.{list_all};
 ghost use Rattle.tb_tree.specs.Printed.{octal, escaped, escaped_byte};
 ghost use Rattle.tb_tree.specs.Written.{is_plain, has_escape, IsGrown, NextEscape};
 
 use std::alloc::AllocError;
+
+/// How many bytes are tested at once.
+const BLOCK: usize = 64;
 
 /// Appends the bytes, runs of plain ones at once, and says whether one was escaped.
 pub fn push_escaped(value: &[u8], out: &mut Vec<u8>) -> Result<bool, AllocError>
@@ -29,18 +33,56 @@ pub fn push_escaped(value: &[u8], out: &mut Vec<u8>) -> Result<bool, AllocError>
 fn next_escape(bytes: &[u8]) -> Option<(&[u8], u8, &[u8])>
     ensures { NextEscape bytes.now (option_map (λ cut. (cut.0.now, cut.1, cut.2.now)) result) }
 {
-    for (at, byte) in bytes.iter().enumerate() {
-        if !is_plain(*byte) {
-            return Some((&bytes[..at], *byte, &bytes[at + 1..]));
+    let mut at = plain_blocks(bytes);
+    'bytes: while at < bytes.len() {
+        if !is_plain(bytes[at]) {
+            return Some((&bytes[..at], bytes[at], &bytes[at + 1..]));
         }
+        at += 1;
     }
     None
+}
+
+/// How many bytes stand first in blocks of plain ones.
+fn plain_blocks(bytes: &[u8]) -> usize
+    ensures within { result ≤ length bytes.now }
+    ensures plain { list_all is_plain (take result bytes.now) ≡ true }
+{
+    if !begins_plain(bytes) {
+        return 0;
+    }
+    let mut at = 0;
+    'steps: while BLOCK <= bytes.len() - at {
+        if !are_plain(&bytes[at..at + BLOCK]) {
+            return at;
+        }
+        at += BLOCK;
+    }
+    at
+}
+
+fn begins_plain(bytes: &[u8]) -> bool {
+    match bytes.first() {
+        Some(first) => is_plain(*first),
+        None => false,
+    }
+}
+
+/// Whether all bytes are plain, in a loop without a branch, which takes many at once.
+fn are_plain(bytes: &[u8]) -> bool
+    ensures { result ≡ list_all is_plain bytes.now }
+{
+    let mut plain = true;
+    'bytes: for byte in bytes {
+        plain = plain & is_plain(*byte);
+    }
+    plain
 }
 
 fn is_plain(byte: u8) -> bool
     ensures { result ≡ is_plain byte }
 {
-    byte >= 32 && byte != 127 && byte != b'\\'
+    (byte >= 32) & (byte != 127) & (byte != b'\\')
 }
 
 fn push_escape(byte: u8, out: &mut Vec<u8>) -> Result<(), AllocError>

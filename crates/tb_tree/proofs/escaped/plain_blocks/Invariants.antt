@@ -1,0 +1,14 @@
+use Rattle.std.proofs.Common.{◌≡◌, ◌≤◌, ◌-◌, true, take, length}
+use Rattle.std.specs.List.{list_all}
+use Rattle.tb_tree.specs.Written.{is_plain}
+use Rattle.tb_tree.proofs.escaped.plain_blocks.Given as goal
+
+abbrev pub decreases-steps : goal.decreases-steps
+decreases-steps l = length l.bytes - l.at
+
+-- the bytes passed are plain
+abbrev pub invariant-steps : goal.invariant-steps
+invariant-steps l = record {
+  within : l.at ≤ length l.bytes;
+  plain : list_all is_plain (take l.at l.bytes) ≡ true;
+}
