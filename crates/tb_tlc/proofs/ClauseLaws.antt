@@ -1,6 +1,6 @@
 -- The operators of clauses: what they make of the first row are the rows of the tuples.
 use Rattle.std.proofs.Common.{◌≡◌, ℕ, ◌+◌, Bool, true, false, List, [], ◌∷◌, ◌++◌, map, refl, ap, ◌∙◌, subst, arith, Some, None, option_and_then, append-nil}
-use Rattle.std.specs.List.{flat_map, fold, AllByRecursion}
+use Rattle.std.specs.List.{flat_map, AllByRecursion}
 use Rattle.std.specs.Option.{option_to_list}
 use Rattle.tb_tree.specs.Documents.{Docs, found}
 use Rattle.tb_tree.specs.Numbers.{Numbered}
@@ -13,9 +13,8 @@ use Rattle.tb_query.specs.declared.path.Path.{Path}
 use Rattle.tb_query.specs.declared.path.Start.{Start}
 use Rattle.tb_query.specs.declared.path.Start.TheVariants as start
 use Rattle.tb_query.specs.declared.path.Step.{Step}
-use Rattle.tb_query.specs.declared.clause.Clause.{Clause}
-use Rattle.tb_query.specs.declared.clause.Clause.TheVariants.{For, Let}
-use Rattle.tb_tlc.specs.Planned.{Draft, path_op, for_mark, with_clause}
+use Rattle.tb_query.specs.declared.clause.Clause.TheVariants.{Let}
+use Rattle.tb_tlc.specs.Planned.{Draft, path_op, for_mark, with_for, first_draft}
 use Rattle.tb_tlc.proofs.RowLaws.{rows_after, rows-append, MakesRows, each-rows}
 use Rattle.tb_tlc.proofs.ApartLaws.{IsOf, path-of_root, path-of_maybe}
 use Rattle.tb_tlc.proofs.CellLaws.{AreThere, there-more, in_doc, place_of}
@@ -70,13 +69,13 @@ module _ (docs : Docs) where
     bound-each t (u ∷ us) holds of =
         (holds-bound docs plans.name d.scope.columns d.next t (plans.row t) var document (Some u) plans.there holds (of.0, tt), bound-each t us holds of.1)
 
-    extended-each : (t : Tuple) (keeps : Bool) (us : List Numbered) → Holds docs plans.name d.scope.columns d.next (t ∷ []) (plans.row t) → AllByRecursion (IsOf (found document docs)) us
+    pub extended-each : (t : Tuple) (keeps : Bool) (us : List Numbered) → Holds docs plans.name d.scope.columns d.next (t ∷ []) (plans.row t) → AllByRecursion (IsOf (found document docs)) us
         → AllByRecursion (λ x. Holds docs (named_too var document plans.name) ((var, d.next) ∷ d.scope.columns) (d.next + 1) (x ∷ []) (more_row (place_of document 0 docs) plans.row x)) (extended var keeps t us)
     extended-each t true [] holds of = (holds-bound docs plans.name d.scope.columns d.next t (plans.row t) var document None plans.there holds tt, tt)
     extended-each t false [] holds of = tt
     extended-each t keeps (u ∷ us) holds of = bound-each t (u ∷ us) holds of
 
-    row-each : (t : Tuple) → Holds docs plans.name d.scope.columns d.next (t ∷ []) (plans.row t)
+    pub row-each : (t : Tuple) → Holds docs plans.name d.scope.columns d.next (t ∷ []) (plans.row t)
         → rows_after docs (path_op d.scope d.next (for_mark empty) path ∷ []) (plans.row t ∷ [])
         ≡ Some (map (more_row (place_of document 0 docs) plans.row) (extended var empty t (nodes_in docs (standing d.scope.lets path) t)))
     row-each t holds =
@@ -84,7 +83,7 @@ module _ (docs : Docs) where
         ∙ ap Some (for-rows (place_of document 0 docs) var empty plans.row t (nodes_in docs (standing d.scope.lets path) t))
 
     -- `FOR` extends each tuple, and its row by one cell.
-    for-plans : Plans docs (with_clause d (For var empty path)) (record { tuples = flat_map (λ t. extended var empty t (nodes_in docs (standing d.scope.lets path) t)) b.tuples; lets = b.lets })
+    abbrev pub for-plans : Plans docs (with_for d var empty path None) (record { tuples = flat_map (λ t. extended var empty t (nodes_in docs (standing d.scope.lets path) t)) b.tuples; lets = b.lets })
     for-plans = record {
       name = named_too var document plans.name;
       row = more_row (place_of document 0 docs) plans.row;
@@ -107,11 +106,10 @@ module _ (docs : Docs) where
       make = all-append MakesRows d.ops (path_op d.scope d.next (for_mark empty) path ∷ []) plans.make (tt, tt);
     }
 
-  pub clause-plans : (d : Draft) (b : Bindings) (c : Clause) → Plans docs d b → Plans docs (with_clause d c) (bound_by docs b c)
-  clause-plans d b (For var empty path) plans =
-      subst (λ lets. Plans docs (with_clause d (For var empty path)) (record { tuples = flat_map (λ t. extended var empty t (nodes_in docs (standing lets path) t)) b.tuples; lets = b.lets }))
-      plans.lets (for-plans d b plans var empty path)
-  clause-plans d b (Let var path) plans = record {
+  -- `LET` leaves tuples and rows as they are.
+  pub let-plans : (d : Draft) (b : Bindings) (var : ℕ) (path : Path) → Plans docs d b
+      → Plans docs (record { ops = d.ops; scope = record { lets = (var, standing d.scope.lets path) ∷ d.scope.lets; columns = d.scope.columns }; next = d.next }) (bound_by docs b (Let var path))
+  let-plans d b var path plans = record {
     name = plans.name;
     row = plans.row;
     rows = plans.rows;
@@ -121,12 +119,8 @@ module _ (docs : Docs) where
     make = plans.make;
   }
 
-  pub clauses-plan : (d : Draft) (b : Bindings) (cs : List Clause) → Plans docs d b → Plans docs (fold with_clause d cs) (fold (bound_by docs) b cs)
-  clauses-plan d b [] plans = plans
-  clauses-plan d b (c ∷ cs) plans = clauses-plan (with_clause d c) (bound_by docs b c) cs (clause-plans d b c plans)
-
   -- At the start there is one tuple without variables, and one row without cells.
-  pub first-plans : Plans docs (record { ops = []; scope = record { lets = []; columns = [] }; next = 0 }) (record { tuples = [] ∷ []; lets = [] })
+  pub first-plans : Plans docs first_draft (record { tuples = [] ∷ []; lets = [] })
   first-plans = record {
     name = λ var. [];
     row = λ t. [];

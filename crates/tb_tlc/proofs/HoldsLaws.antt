@@ -66,7 +66,7 @@ module _ (docs : Docs) (name : ℕ → List ℕ) where
       (λ w too is. ap (λ x. nodes_from steps (node_at x)) (number-tells root u w of too is)) also)
       real
 
-  path-given : (columns : Columns) (n : ℕ) (t : Tuple) (ts : List Tuple) (row : Row) → Holds docs name columns n (t ∷ ts) row → (from : Start) (steps : List Step)
+  pub path-given : (columns : Columns) (n : ℕ) (t : Tuple) (ts : List Tuple) (row : Row) → Holds docs name columns n (t ∷ ts) row → (from : Start) (steps : List Step)
       → column_nodes docs (column_from (column_start n columns from)) steps row
       ≡ map (in_doc (place_of (name_in name from) 0 docs)) (each_once is_same_node (flat_map (λ x. nodes_from steps (start_in docs x from)) (t ∷ ts)))
   path-given columns n t ts row holds (start.Document document) steps =

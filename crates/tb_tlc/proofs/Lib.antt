@@ -1,5 +1,6 @@
 pub mod WorkedRows
 pub mod PlanRows
+pub mod JoinRows
 pub mod RowLaws
 pub mod ApartLaws
 pub mod ThroughLaws
@@ -9,6 +10,9 @@ pub mod AloneLaws
 pub mod ServedLaws
 pub mod HoldsLaws
 pub mod ClauseLaws
+pub mod JoinPlans
+pub mod TieLaws
+pub mod EarlyLaws
 pub mod KeptLaws
 pub mod MergeLaws
 pub mod GroupPlans

@@ -1,5 +1,5 @@
 -- The plan of a query of clauses means what the query means, over any documents.
-use Rattle.std.proofs.Common.{◌≡◌, ℕ, List, [], ◌∷◌, ◌++◌, map, refl, sym, ap, ◌∙◌, Option, Some, None, option_map, option_and_then}
+use Rattle.std.proofs.Common.{◌≡◌, ap₂, subst, ℕ, List, [], ◌∷◌, ◌++◌, map, refl, sym, ap, ◌∙◌, Option, Some, None, option_map, option_and_then}
 use Rattle.std.specs.List.{AllByRecursion}
 use Rattle.tb_tree.specs.Documents.{Docs}
 use Rattle.tb_tree.specs.Plain.{Plain}
@@ -14,7 +14,7 @@ use Rattle.tb_query.specs.Order.{SortValue, sort_values_cmp, keyed}
 use Rattle.tb_query.specs.Parts.{PlainBack, back_of}
 use Rattle.tb_query.specs.Results.{group_trees}
 use Rattle.tb_query.specs.Shapes.{constructed}
-use Rattle.tb_query.specs.Tuples.{Tuple, Lets, Bindings, bindings}
+use Rattle.tb_query.specs.Tuples.{Tuple, Lets, Bindings, extended, standing, nodes_in}
 use Rattle.tb_query.specs.declared.clause.GroupBy.{GroupBy}
 use Rattle.tb_query.specs.declared.clause.Key.{Key}
 use Rattle.tb_query.specs.declared.operand.Comparison.{Comparison}
@@ -24,13 +24,19 @@ use Rattle.tb_query.specs.declared.query.Query.TheVariants as queries
 use Rattle.tb_pattern.specs.declared.pattern.Mark.TheVariants as mark
 use Rattle.tb_tlc.specs.declared.plan.Op.TheVariants.{Group, Construct}
 use Rattle.tb_tlc.specs.Meaning.{trees_after, plan_trees, meaning}
-use Rattle.tb_tlc.specs.Planned.{Draft, path_op, conds_ops, keys_ops, order_ops, with_conds, with_group, with_keys}
+use Rattle.tb_tlc.specs.Planned.{Draft, path_op, conds_ops, keys_ops, order_ops, with_for, with_clause, with_clauses, first_draft, with_conds, with_group, with_keys}
 use Rattle.tb_tlc.specs.Returned.{back_ops, back_shape, planned, planned_flwor}
 use Rattle.tb_tlc.specs.Translated.{translated}
 use Rattle.tb_tlc.proofs.RowLaws.{rows_after, rows-append, trees-append, MakesRows, LooksAlone, alone-makes, each-trees}
 use Rattle.tb_tlc.proofs.AloneLaws.{alone-conds, alone-keys, alone-back}
 use Rattle.tb_tlc.proofs.ServedLaws.{Serves}
-use Rattle.tb_tlc.proofs.ClauseLaws.{Plans, clauses-plan, first-plans}
+use Rattle.tb_tlc.proofs.ClauseLaws.{Plans, for-plans, let-plans, first-plans}
+use Rattle.tb_tlc.proofs.JoinPlans.{join-plans}
+use Rattle.tb_tlc.proofs.EarlyLaws.{cut_by, cut, early, chosen, early-kept, early-lets}
+use Rattle.tb_tlc.specs.Ties.{Tie, tie_for, ties, with_let, lets_after}
+use Rattle.tb_query.specs.declared.clause.Clause.{Clause}
+use Rattle.tb_query.specs.declared.clause.Clause.TheVariants.{For, Let}
+use Rattle.std.specs.List.{flat_map}
 use Rattle.tb_tlc.proofs.KeptLaws.{conds-rows, conds-plan}
 use Rattle.tb_tlc.proofs.GroupPlans.{Serving, serving-alone, serving-groups}
 use Rattle.tb_tlc.proofs.OrderPlans.{keys-past, keys-serving}
@@ -140,10 +146,45 @@ module _ (docs : Docs) where
           (group-serving (with_conds d q.conds) (record { tuples = ts; lets = b.lets }) q.group (conds-plan docs d b q.conds plans ts is))
           ∙ ap (λ o. option_and_then (trees_of_groups docs b.lets back) (option_and_then (λ tuples. ordered_groups docs b.lets q.keys (groups_of docs b.lets q.group tuples)) o)) (sym is)
 
+  -- The operators of a clause make rows of the tuples that it leaves, the early join's test included.
+  clause-plans : (all : List Tie) (later : List Clause) (conds : List Comparison) (d : Draft) (b : Bindings) (c : Clause) → all ≡ ties (lets_after (with_let b.lets c) later) conds
+      → Plans docs d b → Plans docs (with_clause all later d c) (cut docs all later b c)
+  clause-plans all later conds d b (Let var path) are plans = let-plans docs d b var path plans
+  clause-plans all later conds d b (For var empty path) are plans =
+      by (tie_for all var (standing d.scope.lets path).start later) refl
+    where
+      same : (o : Option Tie) → tie_for all var (standing d.scope.lets path).start later ≡ o
+          → Plans docs (with_for d var empty path o) (record { tuples = cut_by docs o (flat_map (λ t. extended var empty t (nodes_in docs (standing d.scope.lets path) t)) b.tuples); lets = b.lets })
+      same None is = for-plans docs d b plans var empty path
+      same (Some tie) is =
+          join-plans docs d b plans var empty path tie
+          (chosen docs conds var (standing d.scope.lets path).start b.lets later tie (ap (λ ks. tie_for ks var (standing d.scope.lets path).start later) (sym are) ∙ is)).elsewhere
+
+      by : (o : Option Tie) → tie_for all var (standing d.scope.lets path).start later ≡ o → Plans docs (with_for d var empty path (tie_for all var (standing d.scope.lets path).start later)) (cut docs all later b (For var empty path))
+      by o is =
+          subst (λ lets. Plans docs (with_for d var empty path (tie_for all var (standing d.scope.lets path).start later))
+          (record { tuples = cut_by docs (tie_for all var (standing lets path).start later) (flat_map (λ t. extended var empty t (nodes_in docs (standing lets path) t)) b.tuples); lets = b.lets }))
+          plans.lets (same (tie_for all var (standing d.scope.lets path).start later) refl)
+
+  clauses-plan : (all : List Tie) (conds : List Comparison) (cs : List Clause) (d : Draft) (b : Bindings) → all ≡ ties (lets_after b.lets cs) conds
+      → Plans docs d b → Plans docs (with_clauses all d cs) (early docs all b cs)
+  clauses-plan all conds [] d b are plans = plans
+  clauses-plan all conds (For var empty path ∷ later) d b are plans =
+      let c = For var empty path in
+      clauses-plan all conds later (with_clause all later d c) (cut docs all later b c) are (clause-plans all later conds d b c are plans)
+  clauses-plan all conds (Let var path ∷ later) d b are plans =
+      let c = Let var path in
+      clauses-plan all conds later (with_clause all later d c) (cut docs all later b c) are (clause-plans all later conds d b c are plans)
+
   pub plan-means : (q : flwor.Flwor) → plan_trees docs (planned_flwor q) ≡ flwor_trees docs q (back_of q.back)
   plan-means q =
-      plan-trees _ (bindings docs q.clauses) q (back_of q.back)
-      (clauses-plan docs (record { ops = []; scope = record { lets = []; columns = [] }; next = 0 }) (record { tuples = [] ∷ []; lets = [] }) q.clauses (first-plans docs))
+      let b : Bindings = record { tuples = [] ∷ []; lets = [] } in
+      let all = ties (lets_after [] q.clauses) q.conds in
+      let back = back_of q.back in
+      let rest = λ (lets : Lets) (o : Option (List Tuple)). option_and_then (trees_of_groups docs lets back) (option_and_then (λ tuples. ordered_groups docs lets q.keys (groups_of docs lets q.group tuples)) o) in
+      plan-trees (with_clauses all first_draft q.clauses) (early docs all b q.clauses) q back
+      (clauses-plan all q.conds q.clauses first_draft b refl (first-plans docs))
+      ∙ ap₂ rest (early-lets docs all q.clauses b) (early-kept docs q.conds all q.clauses b refl)
 
 -- and so does the plan of any query
 pub translated-means : (q : Query) (docs : Docs) → meaning docs (translated q) ≡ answer docs q

@@ -110,8 +110,8 @@ count-clauses [] = omega arith
 count-clauses (For var empty path ∷ cs) = let others = count-clauses cs in omega (arith, others)
 count-clauses (Let var path ∷ cs) = let others = count-clauses cs in omega (arith, others)
 
--- At most two columns for each thing, and two for a group.
-pub few-columns : (q : flwor.Flwor) → most_columns q ≤ 2 + 2 * size_of_actions (actions_of_flwor q)
+-- At most three columns for each thing, and two for a group.
+pub few-columns : (q : flwor.Flwor) → most_columns q ≤ 2 + 3 * size_of_actions (actions_of_flwor q)
 few-columns q =
     let clauses = flat_map actions_of_clause q.clauses in
     let conds = flat_map actions_of_comparison q.conds in

@@ -1,5 +1,5 @@
 -- The plan of a query of clauses: what each part of it adds to the operators, and which columns it gets.
-use Rattle.std.specs.Prelude.{ℕ, ◌+◌, ◌==◌, Bool, if◌then◌else◌, List, [], ◌∷◌, ◌++◌, Option, Some, None, fold}
+use Rattle.std.specs.Prelude.{ℕ, ◌+◌, ◌==◌, Bool, if◌then◌else◌, List, [], ◌∷◌, ◌++◌, Option, Some, None}
 use Rattle.tb_tree.specs.declared.against.Against.{Against}
 use Rattle.tb_tree.specs.declared.against.Against.TheVariants as against
 use Rattle.tb_number.specs.declared.sort_key.SortKey.{SortKey}
@@ -21,10 +21,11 @@ use Rattle.tb_query.specs.declared.clause.Clause.{Clause}
 use Rattle.tb_query.specs.declared.clause.Clause.TheVariants.{For, Let}
 use Rattle.tb_query.specs.declared.clause.GroupBy.{GroupBy}
 use Rattle.tb_query.specs.declared.clause.Key.{Key}
+use Rattle.tb_tlc.specs.Ties.{Tie, tie_for}
 use Rattle.tb_tlc.specs.declared.plan.ColumnStart.{ColumnStart}
 use Rattle.tb_tlc.specs.declared.plan.ColumnStart.TheVariants.{Document, Column}
 use Rattle.tb_tlc.specs.declared.plan.Op.{Op}
-use Rattle.tb_tlc.specs.declared.plan.Op.TheVariants.{Select, Filter, Group, Aggregate, Order}
+use Rattle.tb_tlc.specs.declared.plan.Op.TheVariants.{Select, Filter, ValueJoin, Group, Aggregate, Order}
 
 -- variables with their columns, the last one bound first
 abbrev pub Columns : Type 0
@@ -45,10 +46,13 @@ abbrev pub column_start : ℕ → Columns → Start → ColumnStart
 column_start next columns (start.Document name) = Document name
 column_start next columns (start.Var var) = Column (column_of next var columns)
 
--- a column with the nodes of a path
+-- a column with the nodes of a path that starts at no variable of `LET`
+abbrev pub stand_op : Columns → ℕ → Mark → Path → Op
+stand_op columns next mark path = Select (column_start next columns path.start) path.steps mark
+
+-- a column with the nodes of any path
 abbrev pub path_op : Scope → ℕ → Mark → Path → Op
-path_op s next mark path =
-    Select (column_start next s.columns (standing s.lets path).start) (standing s.lets path).steps mark
+path_op s next mark path = stand_op s.columns next mark (standing s.lets path)
 
 -- An operand has a column for its nodes, and an aggregate one more for its value.
 abbrev pub operand_ops : Scope → ℕ → Operand → List Op
@@ -107,21 +111,46 @@ pub record Draft : Type 0 where
 abbrev pub for_mark : Bool → Mark
 for_mark empty = if empty then mark.Optional else mark.One
 
--- `FOR` adds a column for its variable, and `LET` none
-abbrev pub with_clause : Draft → Clause → Draft
-with_clause d (For var empty path) = record {
-  ops = d.ops ++ path_op d.scope d.next (for_mark empty) path ∷ [];
+-- `FOR` adds a column for its variable. Where a tie leads to the variable, the nodes of the tie's paths have
+-- columns too, and the rows in which these have an equal value are kept. The path starts at no variable of `LET`.
+abbrev pub with_stood : Draft → ℕ → Mark → Path → Option Tie → Draft
+with_stood d var own path None = record {
+  ops = d.ops ++ stand_op d.scope.columns d.next own path ∷ [];
   scope = record { lets = d.scope.lets; columns = (var, d.next) ∷ d.scope.columns };
   next = d.next + 1;
 }
-with_clause d (Let var path) = record {
+with_stood d var own path (Some tie) = record {
+  ops = d.ops
+      ++ stand_op d.scope.columns d.next mark.Any tie.0
+      ∷ stand_op d.scope.columns (d.next + 1) own path
+      ∷ stand_op ((var, d.next + 1) ∷ d.scope.columns) (d.next + 2) mark.Any tie.1
+      ∷ ValueJoin d.next (d.next + 2)
+      ∷ [];
+  scope = record { lets = d.scope.lets; columns = (var, d.next + 1) ∷ d.scope.columns };
+  next = d.next + 3;
+}
+
+abbrev pub with_for : Draft → ℕ → Bool → Path → Option Tie → Draft
+with_for d var empty path tie = with_stood d var (for_mark empty) (standing d.scope.lets path) tie
+
+-- a clause, with those to come; `LET` adds no column
+abbrev pub with_clause : List Tie → List Clause → Draft → Clause → Draft
+with_clause all later d (For var empty path) =
+    with_for d var empty path (tie_for all var (standing d.scope.lets path).start later)
+with_clause all later d (Let var path) = record {
   ops = d.ops;
   scope = record { lets = (var, standing d.scope.lets path) ∷ d.scope.lets; columns = d.scope.columns };
   next = d.next;
 }
 
-abbrev pub with_clauses : List Clause → Draft
-with_clauses clauses = fold with_clause (record { ops = []; scope = record { lets = []; columns = [] }; next = 0 }) clauses
+-- clauses in written order
+abbrev pub with_clauses : List Tie → Draft → List Clause → Draft
+with_clauses all d [] = d
+with_clauses all d (c ∷ later) = with_clauses all (with_clause all later d c) later
+
+-- nothing is planned yet
+abbrev pub first_draft : Draft
+first_draft = record { ops = []; scope = record { lets = []; columns = [] }; next = 0 }
 
 -- conditions in the order in which they are tested
 abbrev pub with_conds : Draft → List Comparison → Draft

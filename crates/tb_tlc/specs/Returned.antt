@@ -16,7 +16,8 @@ use Rattle.tb_query.specs.declared.back.Content.TheVariants.{Text, Operand}
 use Rattle.tb_query.specs.declared.query.Flwor.{Flwor}
 use Rattle.tb_tlc.specs.declared.plan.Op.{Op}
 use Rattle.tb_tlc.specs.declared.plan.Op.TheVariants.{Construct}
-use Rattle.tb_tlc.specs.Planned.{Scope, Draft, path_op, operand_ops, operand_width, operand_column, with_clauses, with_conds, with_group, with_keys}
+use Rattle.tb_tlc.specs.Ties.{ties, lets_after}
+use Rattle.tb_tlc.specs.Planned.{Scope, Draft, path_op, operand_ops, operand_width, operand_column, first_draft, with_clauses, with_conds, with_group, with_keys}
 
 -- a string, or an operand with its column
 abbrev pub content_ops : Scope → ℕ → Content → List Op
@@ -107,7 +108,8 @@ planned d back = d.ops ++ (back_ops d.scope d.next back ++ Construct (back_shape
 
 -- clauses, conditions, group, order, results
 abbrev pub draft_of : Flwor → Draft
-draft_of q = with_keys (with_group (with_conds (with_clauses q.clauses) q.conds) q.group) q.keys
+draft_of q =
+    with_keys (with_group (with_conds (with_clauses (ties (lets_after [] q.clauses) q.conds) first_draft q.clauses) q.conds) q.group) q.keys
 
 abbrev pub planned_flwor : Flwor → List Op
 planned_flwor q = planned (draft_of q) (back_of q.back)

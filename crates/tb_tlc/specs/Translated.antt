@@ -1,5 +1,5 @@
 -- The plan of a query.
-use Rattle.std.specs.Prelude.{ℕ, ◌+◌, List, [], ◌∷◌, length}
+use Rattle.std.specs.Prelude.{ℕ, ◌+◌, ◌*◌, List, [], ◌∷◌, length}
 use Rattle.tb_query.specs.Comparisons.{as_tested}
 use Rattle.tb_query.specs.Parts.{back_of}
 use Rattle.tb_query.specs.declared.query.Flwor as flwor
@@ -18,5 +18,5 @@ translated (Flwor q) = planned_flwor q
 -- the most columns that a query of clauses can have
 abbrev pub most_columns : flwor.Flwor → ℕ
 most_columns q =
-    length q.clauses
+    3 * length q.clauses
     + (conds_width (as_tested q.conds) + (2 + (keys_width q.keys + back_width (back_of q.back))))

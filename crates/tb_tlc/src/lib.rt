@@ -13,6 +13,7 @@ mod plan;
 mod planning;
 mod returned;
 mod scope;
+mod ties;
 
 pub use plan::{ColumnStart, Op, Plan};
 pub use planning::translate;

@@ -2,7 +2,7 @@
 
 ghost use Rattle.std.specs.Prelude.{◌≡◌, ◌++◌, ◌+◌, ◌<◌, [], ◌∷◌, IfOk, OnOk};
 ghost use Rattle.tb_pattern.specs.declared.pattern.Mark.TheVariants as mark;
-ghost use Rattle.tb_tlc.specs.Planned.{path_op, operand_ops, operand_width, operand_column};
+ghost use Rattle.tb_tlc.specs.Planned.{stand_op, path_op, operand_ops, operand_width, operand_column};
 ghost use Rattle.tb_tlc.specs.Scopes.{seen};
 
 use crate::Op;
@@ -22,8 +22,22 @@ pub fn push_path(
 ) -> Result<(), AllocError>
     ensures { OnOk result (ops.new.items ≡ ops.old.items ++ path_op (seen scope.now) next mark path.now ∷ []) }
 {
-    let Path { start, steps } = standing(alloc, scope.lets.as_slice(), path)?;
-    let start = column_start(scope.columns.as_slice(), next, start);
+    let path = standing(alloc, scope.lets.as_slice(), path)?;
+    push_stood(ops, scope.columns.as_slice(), next, mark, path)
+}
+
+/// The same of a path that starts at no variable of `LET`.
+pub fn push_stood(
+    ops: &mut Vec<Op>,
+    columns: &[(u32, u32)],
+    next: u32,
+    mark: Mark,
+    path: Path,
+) -> Result<(), AllocError>
+    ensures { OnOk result (ops.new.items ≡ ops.old.items ++ stand_op columns.now next mark path ∷ []) }
+{
+    let Path { start, steps } = path;
+    let start = column_start(columns, next, start);
     ops.push(Op::Select { start, steps, mark })?;
     Ok(())
 }

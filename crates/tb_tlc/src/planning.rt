@@ -14,6 +14,7 @@ use crate::conditions::push_conds;
 use crate::ordering::{push_group, push_order};
 use crate::returned::push_back;
 use crate::scope::Scope;
+use crate::ties::ties;
 use crate::{Op, Plan};
 use std::alloc::{AllocError, Global};
 use tb_pattern::Pattern;
@@ -52,7 +53,9 @@ fn plan_flwor(alloc: Global, flwor: &Flwor) -> Result<Plan, AllocError>
 {
     let mut ops = Vec::new(alloc);
     let mut scope = Scope::new(alloc);
-    let next = push_clauses(alloc, &mut ops, &mut scope, flwor.clauses.as_slice())?;
+    let ties = ties(alloc, flwor.clauses.as_slice(), flwor.conds.as_slice())?;
+    let ties = ties.as_slice();
+    let next = push_clauses(alloc, &mut ops, &mut scope, ties, flwor.clauses.as_slice())?;
     let next = push_conds(alloc, &mut ops, &scope, next, flwor.conds.as_slice())?;
     let next = push_group(alloc, &mut ops, &mut scope, next, &flwor.group)?;
     let next = push_order(alloc, &mut ops, &scope, next, flwor.keys.as_slice())?;

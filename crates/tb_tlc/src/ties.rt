@@ -1,0 +1,202 @@
+//! Conditions that tie a variable to an earlier one.
+
+ghost use Rattle.std.specs.Prelude.{◌≡◌, ◌++◌, [], IfOk, OnOk, option_map};
+ghost use Rattle.tb_query.specs.Tuples.{standing};
+ghost use Rattle.tb_query.specs.declared.operand.Operand.TheVariants.{Nodes};
+ghost use Rattle.tb_tlc.specs.Ties.{ties, ties_of, ties_of_sides, both_ways, is_equality, with_let, lets_after};
+ghost use Rattle.tb_tlc.specs.Ties.{binds, is_free, starts_at, starts_before, leads_to, is_document, tie_for};
+
+use crate::scope::standing;
+use std::alloc::{AllocError, Global};
+use tb_number::CmpOp;
+use tb_query::{Clause, Comparison, Operand, Path, Right, Start};
+
+/// The ties of all conditions, each either way round.
+pub fn ties(
+    alloc: Global,
+    clauses: &[Clause],
+    conds: &[Comparison],
+) -> Result<Vec<(Path, Path)>, AllocError>
+    ensures { IfOk result (λ all. all.items ≡ ties (lets_after [] clauses.now) conds.now) }
+{
+    let lets = lets_after(alloc, clauses)?;
+    let mut all = Vec::new(alloc);
+    'conds: for cond in conds {
+        push_ties(alloc, &mut all, lets.as_slice(), cond)?;
+    }
+    Ok(all)
+}
+
+/// The variables of `LET` with their paths, the last one bound first.
+fn lets_after(alloc: Global, clauses: &[Clause]) -> Result<Vec<(u32, Path)>, AllocError>
+    ensures { IfOk result (λ lets. lets.items ≡ lets_after [] clauses.now) }
+{
+    let mut lets = Vec::new(alloc);
+    'clauses: for clause in clauses {
+        push_let(alloc, &mut lets, clause)?;
+    }
+    Ok(lets)
+}
+
+fn push_let(alloc: Global, lets: &mut Vec<(u32, Path)>, clause: &Clause) -> Result<(), AllocError>
+    ensures { OnOk result (lets.new.items ≡ with_let lets.old.items clause.now) }
+{
+    match clause {
+        Clause::For { .. } => Ok(()),
+        Clause::Let { var, path } => {
+            let path = standing(alloc, lets.as_slice(), path)?;
+            lets.insert(0, (*var, path))?;
+            Ok(())
+        }
+    }
+}
+
+/// Those of one condition.
+fn push_ties(
+    alloc: Global,
+    all: &mut Vec<(Path, Path)>,
+    lets: &[(u32, Path)],
+    cond: &Comparison,
+) -> Result<(), AllocError>
+    ensures { OnOk result (all.new.items ≡ all.old.items ++ ties_of lets.now cond.now) }
+{
+    match &cond.left {
+        Operand::Nodes(left) => push_sides(alloc, all, lets, cond.op, left, &cond.right),
+        Operand::Agg { .. } => Ok(()),
+    }
+}
+
+fn push_sides(
+    alloc: Global,
+    all: &mut Vec<(Path, Path)>,
+    lets: &[(u32, Path)],
+    op: CmpOp,
+    left: &Path,
+    right: &Right,
+) -> Result<(), AllocError>
+    ensures { OnOk result (all.new.items ≡ all.old.items ++ ties_of_sides lets.now op (Nodes left.now) right.now) }
+{
+    match right {
+        Right::Operand(operand) => match operand {
+            Operand::Nodes(right) => push_both_ways(alloc, all, lets, is_equality(op), left, right),
+            Operand::Agg { .. } => Ok(()),
+        },
+        Right::Literal(_) => Ok(()),
+    }
+}
+
+fn push_both_ways(
+    alloc: Global,
+    all: &mut Vec<(Path, Path)>,
+    lets: &[(u32, Path)],
+    is_tie: bool,
+    left: &Path,
+    right: &Path,
+) -> Result<(), AllocError>
+    ensures { OnOk result (all.new.items
+        ≡ all.old.items ++ both_ways is_tie (standing lets.now left.now) (standing lets.now right.now)) }
+{
+    if !is_tie {
+        return Ok(());
+    }
+    let first = standing(alloc, lets, left)?;
+    let second = standing(alloc, lets, right)?;
+    all.push((first, second))?;
+    let first = standing(alloc, lets, right)?;
+    let second = standing(alloc, lets, left)?;
+    all.push((first, second))?;
+    Ok(())
+}
+
+fn is_equality(op: CmpOp) -> bool
+    ensures { result ≡ is_equality op }
+{
+    match op {
+        CmpOp::Eq => true,
+        CmpOp::Ne => false,
+        CmpOp::Lt => false,
+        CmpOp::Le => false,
+        CmpOp::Gt => false,
+        CmpOp::Ge => false,
+    }
+}
+
+/// The first tie that leads to a variable which `FOR` binds to the nodes of a path from a document, and which the
+/// clauses to come don't bind again.
+pub fn tie_for<'a>(
+    all: &'a [(Path, Path)],
+    var: u32,
+    start: &Start,
+    later: &[Clause],
+) -> Option<&'a (Path, Path)>
+    ensures { option_map (λ tie. tie.now) result ≡ tie_for all.now var start.now later.now }
+{
+    if !is_document(start) {
+        return None;
+    }
+    if !is_free(var, later) {
+        return None;
+    }
+    'ties: for tie in all {
+        if leads_to(var, later, tie) {
+            return Some(tie);
+        }
+    }
+    None
+}
+
+/// Whether the tie leads from an earlier variable to this one.
+fn leads_to(var: u32, later: &[Clause], tie: &(Path, Path)) -> bool
+    ensures { result ≡ leads_to var later.now tie.now }
+{
+    starts_at(var, &tie.1.start) && starts_before(var, later, &tie.0.start)
+}
+
+fn starts_at(var: u32, start: &Start) -> bool
+    ensures { result ≡ starts_at var start.now }
+{
+    match start {
+        Start::Document(_) => false,
+        Start::Var(other) => var == *other,
+    }
+}
+
+/// Whether it is another variable that the clauses to come don't bind.
+fn starts_before(var: u32, later: &[Clause], start: &Start) -> bool
+    ensures { result ≡ starts_before var later.now start.now }
+{
+    match start {
+        Start::Document(_) => false,
+        Start::Var(other) => *other != var && is_free(*other, later),
+    }
+}
+
+/// Whether no `FOR` among the clauses binds the variable.
+fn is_free(var: u32, clauses: &[Clause]) -> bool
+    ensures { result ≡ is_free var clauses.now }
+{
+    'clauses: for clause in clauses {
+        if binds(var, clause) {
+            return false;
+        }
+    }
+    true
+}
+
+fn binds(var: u32, clause: &Clause) -> bool
+    ensures { result ≡ binds var clause.now }
+{
+    match clause {
+        Clause::For { var: other, .. } => var == *other,
+        Clause::Let { .. } => false,
+    }
+}
+
+fn is_document(start: &Start) -> bool
+    ensures { result ≡ is_document start.now }
+{
+    match start {
+        Start::Document(_) => true,
+        Start::Var(_) => false,
+    }
+}
