@@ -1,14 +1,14 @@
 -- Lists of nodes and links as a function of the rows of a document, and what narrowing makes of them.
-use Rattle.std.proofs.Common.{◌≡◌, ℕ, ◌+◌, ◌≤◌, Bool, true, false, cond, ◌&&◌, ◌||◌, nat_eq, List, [], ◌∷◌, get_or, map, filter, flat_map, refl, sym, ap, ◌∙◌, arith}
+use Rattle.std.proofs.Common.{◌≡◌, ℕ, ◌+◌, ◌≤◌, Bool, true, false, cond, ◌&&◌, ◌||◌, nat_eq, List, [], ◌∷◌, get_or, map, filter, flat_map, All, refl, sym, ap, ◌∙◌, subst, arith}
 use Rattle.std.specs.List.{AllByRecursion, list_any}
 use Rattle.std.proofs.lemmas.Bool.{cond-true, cond-false, eq-eqb, ne_eqb, and_parts, and_from, or_left, or_right}
-use Rattle.std.proofs.lemmas.List.Elements.{filter_agree}
+use Rattle.std.proofs.lemmas.List.Elements.{filter_agree, All-from_recursion, recursion_from_All}
 use Rattle.std.proofs.lemmas.List.Folds.{flat_map-map}
 use Rattle.std.proofs.lemmas.Simd.{map-map}
 use Rattle.tb_tree.specs.Plain.{Plain}
 use Rattle.tb_tree.specs.Numbers.{Numbered}
-use Rattle.tb_tree.proofs.lists.Alls.{all-weaker}
-use Rattle.tb_tree.proofs.lists.Filters.{filter-map, filter-flat_map, filter-fixed, both_filters}
+use Rattle.tb_tree.proofs.lists.Alls.{all-weaker, all-map, all-flat_map, all-passing}
+use Rattle.tb_tree.proofs.lists.Filters.{filter-map, filter-flat_map, filter-fixed, both_filters, All-unfilter}
 use Rattle.tb_tree.proofs.lists.Maps.{map-flat_map, flat_map_same}
 use Rattle.tb_span.specs.Lists.{is_related}
 use Rattle.tb_span.specs.declared.item.Axis.{Axis}
@@ -22,7 +22,8 @@ use Rattle.tb_twig.specs.Narrowed.{link, links_under, links_between, leads_from,
 use Rattle.tb_twig.proofs.HasLaws.{has, has-map, met-more, any-filter, any-map, any-more}
 use Rattle.tb_twig.proofs.BuiltLaws.{kept_same}
 use Rattle.tb_twig.proofs.StandsLaws.{Narrows, Joins}
-use Rattle.tb_twig.proofs.TableLaws.{Of, axis-found, table-count, alone-of, top_of, closed_of}
+use Rattle.tb_twig.proofs.NumberedLaws.{later}
+use Rattle.tb_twig.proofs.TableLaws.{Member, Of, all-members, axis-found, table-count, alone-of, top_of, closed_of}
 
 -- the items of the rows whose nodes pass
 abbrev pub listed_by : (Numbered → Bool) → List Row → List Item
@@ -72,7 +73,7 @@ runs-of root axis p u here =
     ∙ ap (map (λ (v : Numbered). v.number)) (sym (filter-map (p (numbered_of r)) numbered_of (filter (is_on axis r) rs)) ∙ ap (filter (p (numbered_of r))) (axis-found root axis r here.2))
     ∙ sym (ap (λ (w : Numbered). map (λ (v : Numbered). v.number) (filter (p w) (axis_of axis w))) here.1)
 
-has-filter : {X : Type 0} (p : X → Bool) (xs : List X) → has (filter p xs) ≡ list_any p xs
+pub has-filter : {X : Type 0} (p : X → Bool) (xs : List X) → has (filter p xs) ≡ list_any p xs
 has-filter p [] = refl
 has-filter p (x ∷ xs) = at (p x) (has-filter p xs)
   where
@@ -242,3 +243,32 @@ joins root es e lists pairs = record {
     each : (u : Numbered) (vs : List Numbered) → AllByRecursion (λ v. pairs_then e (branch_at es e) lists pairs e u v ≡ (lists (branch_at es e).up u && lists (e + 1) v)) vs
     each u [] = tt
     each u (v ∷ vs) = (cond-true (nat_eq e e) (lists (branch_at es e).up u && lists (e + 1) v) (pairs e u v) (eq-eqb e e refl), each u vs)
+
+unmapped : {X Y : Type 0} (P : Y → Type 0) (f : X → Y) (xs : List X) → AllByRecursion P (map f xs) → AllByRecursion (λ x. P (f x)) xs
+unmapped P f [] all = tt
+unmapped P f (x ∷ xs) all = (all.0, unmapped P f xs all.1)
+
+-- No link leads to the document node.
+pub links-later : (root : Plain) (axis : Axis) (p : Numbered → Numbered → Bool) → All (λ (l : Link). 1 ≤ l.below) (links_of axis p (table root))
+links-later root axis p =
+    All-from_recursion (λ (l : Link). 1 ≤ l.below) (links_of axis p rs)
+    (all-flat_map (λ (l : Link). 1 ≤ l.below) (λ r. map (λ s. link r.number s.number) (filter (passes r) rs)) rs
+    (all-weaker (Member rs) (λ r. AllByRecursion (λ (l : Link). 1 ≤ l.below) (map (λ s. link r.number s.number) (filter (passes r) rs))) rs of_row (all-members rs)))
+  where
+    rs : List Row
+    rs = table root
+
+    passes : Row → Row → Bool
+    passes r s = is_on axis r s && p (numbered_of r) (numbered_of s)
+
+    of_row : (r : Row) → Member rs r → AllByRecursion (λ (l : Link). 1 ≤ l.below) (map (λ s. link r.number s.number) (filter (passes r) rs))
+    of_row r m =
+        all-map (λ (l : Link). 1 ≤ l.below) (λ s. link r.number s.number) (filter (passes r) rs)
+        (all-passing (λ (s : Row). 1 ≤ s.number) (passes r) rs
+        (all-weaker (λ s. is_on axis r s ≡ true → r.number + 1 ≤ s.number) (λ s. passes r s ≡ true → 1 ≤ s.number) rs
+        (λ s k e. let low = k (and_parts (is_on axis r s) (p (numbered_of r) (numbered_of s)) e).0 in omega (arith, low))
+        (recursion_from_All (λ s. is_on axis r s ≡ true → r.number + 1 ≤ s.number) rs
+        (All-unfilter (is_on axis r) (λ (s : Row). r.number + 1 ≤ s.number) rs
+        (All-from_recursion (λ (s : Row). r.number + 1 ≤ s.number) (filter (is_on axis r) rs)
+        (unmapped (λ (v : Numbered). r.number + 1 ≤ v.number) numbered_of (filter (is_on axis r) rs)
+        (subst (AllByRecursion (λ (v : Numbered). r.number + 1 ≤ v.number)) (sym (axis-found root axis r m)) (later axis (numbered_of r)))))))))

@@ -23,7 +23,7 @@ use Rattle.tb_twig.specs.Lists.{branch_of}
 use Rattle.tb_twig.specs.Links.{IsRising, lists_in}
 use Rattle.tb_twig.specs.Hits.{IsNumbered}
 use Rattle.tb_twig.specs.Joins.{node_list, links_found, lists_after, first_lists}
-use Rattle.tb_twig.specs.Trimmed.{laid_at, trimmed}
+use Rattle.tb_twig.specs.Trimmed.{laid_at, trimmed, AreTrimmed}
 use Rattle.tb_twig.specs.Offered.{meeting}
 use Rattle.tb_twig.specs.Calls.{AreLinks, AreTraced}
 use Rattle.tb_twig.specs.declared.branch.Branch as code
@@ -33,6 +33,8 @@ use Rattle.tb_twig.proofs.WholeLaws.{up-before}
 use Rattle.tb_twig.proofs.OfferedLaws.{IsIn}
 use Rattle.tb_twig.proofs.StartLaws.{filter-shorter}
 use Rattle.tb_twig.proofs.HoldsLaws.{many, Core, Holds, holds-start, holds-joinable, holds-numbered, holds-step}
+use Rattle.tb_twig.proofs.TrimLaws.{trimmed-is}
+use Rattle.tb_twig.proofs.LinkLaws.{links-later}
 use Rattle.tb_twig.proofs.DoneLaws.{laid-is, trim-all, done-rows, done-traced}
 
 pub many-edges : (es : PlainEdges) → length (branches_of es) ≡ edge_count es
@@ -148,3 +150,15 @@ module _ (root : Plain) (es : PlainEdges) (order : List ℕ) (is_order : IsOrder
     many = sym (length-map trace (λ (t : Trace). t.size)) ∙ left.many_sizes;
     each = λ i less. done-traced root es order (lists_in links) (map (λ t. t.size) trace) (order-all es order is_order) left i less (order-within es order is_order i less);
   }
+
+  pub matched-trimmed : AreTrimmed laid (lists_in links)
+  matched-trimmed =
+      let long = ap length laid_are ∙ length-map (branches_of es) branch_of in
+      subst (AreTrimmed laid) (sym links_are)
+      (trimmed-is laid (many root es) (λ f less. let low = up-before es f less in omega (arith, ap (λ (b : code.Branch). b.up) (laid-is root es laid laid_are f less), low)) before long h.core.many_links)
+
+  pub matched-below : All (λ ls. All (λ link. 1 ≤ link.below) ls.items) links
+  matched-below = λ k d less.
+      let within : k < many root es = omega (arith, less, left.many_links, length-map links (λ (v : Vec Link Global). v.items)) in
+      subst (All (λ (l : Link). 1 ≤ l.below)) (sym (left.links_are k within (order-all es order is_order k within)) ∙ get_or-map (λ (v : Vec Link Global). v.items) links k d [] less)
+      (links-later root (branch_at es k).axis (left.pairs k))

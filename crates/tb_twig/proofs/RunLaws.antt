@@ -1,5 +1,5 @@
 -- Links in the order of their upper nodes: those of one node stand behind each other.
-use Rattle.std.proofs.Common.{◌≡◌, ℕ, zero, suc, ◌+◌, ◌<◌, ◌≤◌, Bool, true, false, cond, ◌&&◌, nat_eq, ◌⊎◌, inl, inr, List, [], ◌∷◌, ◌++◌, length, take, drop, get_or, map, filter, flat_map, refl, sym, ap, ◌∙◌, subst, arith, take-append-drop, length-drop}
+use Rattle.std.proofs.Common.{◌≡◌, ℕ, zero, suc, ◌+◌, ◌-◌, ◌<◌, ◌≤◌, Bool, true, false, cond, ◌&&◌, nat_eq, ◌⊎◌, inl, inr, List, [], ◌∷◌, ◌++◌, length, take, drop, get_or, map, filter, flat_map, refl, sym, ap, ◌∙◌, subst, arith, take-append-drop, length-drop}
 use Rattle.std.specs.List.{AllByRecursion, prefix_len}
 use Rattle.std.specs.List.Sorted.{IsPartitionPoint}
 use Rattle.std.proofs.lemmas.Bool.{cond-true, cond-false, cases_eq, cases_lt, eq-eqb, ne_eqb}
@@ -146,3 +146,39 @@ pub links-rise : (root : Plain) (axis : Axis) (p : Numbered → Numbered → Boo
 links-rise root axis p =
     rising-from (links_of axis p (table root))
     (all-rise (λ r. filter (λ s. is_on axis r s && p (numbered_of r) (numbered_of s)) (table root)) 0 (table root) (table-count root)).0
+
+same_at : (ls : List Link) (i : ℕ) (d e : Link) → i < length ls → get_or ls i d ≡ get_or ls i e
+same_at [] i d e less = absurd (omega (arith, less))
+same_at (l ∷ ls) zero d e less = refl
+same_at (l ∷ ls) (suc i) d e less = same_at ls i d e (omega (arith, less))
+
+-- The links of n or a later node begin at a place by the one that stands there and the one before it.
+pub begins-at : (n at : ℕ) (ls : List Link) (d : Link) → IsRising ls → at < length ls → (0 < at → (get_or ls (at - 1) d).above < n) → n ≤ (get_or ls at d).above
+    → (at ≤ length ls) × IsPartitionPoint (starts_below n) (starts_from n) ls at
+begins-at n at ls d rise within before behind = (
+  omega (arith, within),
+  (
+    λ k e low high.
+        let last = rise k (at - 1) e (omega (arith, high)) (omega (arith, within, high)) in
+        let same = ap (λ (l : Link). l.above) (same_at ls (at - 1) d e (omega (arith, within, high))) in
+        omega (arith, last, same, before (omega (arith, high))),
+    λ k e low high.
+        let first = rise at k e low high in
+        let same = ap (λ (l : Link). l.above) (same_at ls at d e within) in
+        omega (arith, first, same, behind),
+  ),
+)
+
+-- nothing more behind the last link
+pub begins-past : (n at : ℕ) (ls : List Link) (d : Link) → IsRising ls → at ≡ length ls → (0 < at → (get_or ls (at - 1) d).above < n)
+    → (at ≤ length ls) × IsPartitionPoint (starts_below n) (starts_from n) ls at
+begins-past n at ls d rise past before = (
+  omega (arith, past),
+  (
+    λ k e low high.
+        let last = rise k (at - 1) e (omega (arith, high)) (omega (arith, past, high)) in
+        let same = ap (λ (l : Link). l.above) (same_at ls (at - 1) d e (omega (arith, past, high))) in
+        omega (arith, last, same, before (omega (arith, high))),
+    λ k e low high. absurd (omega (arith, low, high, past)),
+  ),
+)

@@ -1,5 +1,5 @@
 -- Links in vain: their lower node has no link of an edge below that asks for one.
-use Rattle.std.specs.Prelude.{ℕ, zero, suc, ◌-◌, Bool, ◌&&◌, not, nat_eq, cond, List, [], filter, set, slice_index_or}
+use Rattle.std.specs.Prelude.{◌≡◌, ℕ, zero, suc, ◌-◌, ◌<◌, Bool, true, ◌&&◌, not, nat_eq, cond, List, [], length, filter, set, slice_index_or, All}
 use Rattle.tb_span.specs.declared.item.Axis.TheVariants.{Child}
 use Rattle.tb_pattern.specs.declared.pattern.Mark.TheVariants.{One}
 use Rattle.tb_twig.specs.Narrowed.{leads_from, asks}
@@ -33,3 +33,13 @@ trim_step laid f links =
 abbrev pub trimmed : List Branch → ℕ → List (List Link) → List (List Link)
 trimmed laid zero links = links
 trimmed laid (suc f) links = trimmed laid f (trim_step laid f links)
+
+-- each link of the edge above edge f leads on by a link of edge f, where that asks for one
+abbrev pub IsTrimmedAt : List Branch → List (List Link) → ℕ → Type 0
+IsTrimmedAt laid links f =
+    asks_above (laid_at laid f) ≡ true
+    → All (λ link. leads_from (slice_index_or links f []) link.below ≡ true) (slice_index_or links ((laid_at laid f).up - 1) [])
+
+-- no link is in vain
+abbrev pub AreTrimmed : List Branch → List (List Link) → Type 0
+AreTrimmed laid links = (f : ℕ) → f < length laid → IsTrimmedAt laid links f

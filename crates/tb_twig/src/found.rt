@@ -43,7 +43,11 @@ pub fn witnesses<R: Threads + Sync, G: Gate>(
         ≡ rows_of_document (edges_of p.now.edges) (plain_of store.now)) }
     ensures trace { IfOk result (λ found. AreTraced (plain_of store.now) (edges_of p.now.edges) order.now found.trace.items) }
 {
-    let Matched { links, trace } = join_edges(rt, alloc, p, store, order, settings, gate)?;
+    let Matched {
+        laid: _,
+        links,
+        trace,
+    } = join_edges(rt, alloc, p, store, order, settings, gate)?;
     let rows = rows_at(alloc, p.edges.as_slice(), links.as_slice(), 0)?;
     Ok(Found { rows, trace })
 }

@@ -15,13 +15,18 @@ mod nodes;
 mod offers;
 mod rows;
 mod run;
+mod runs;
 mod trim;
 mod vain;
 
+pub use branch::Branch;
 pub use found::{Found, witnesses};
 pub use link::Link;
 pub use matching::{Matched, join_edges};
+pub use rows::{nodes_in, size_below};
+pub use runs::{Cursors, Runs};
 pub use tb_pattern::{Offer, Witness};
+pub use vain::is_in_vain;
 
 #[cfg(test)]
 mod tests;

@@ -1,6 +1,6 @@
 //! The links of all edges of a pattern, by one structural join an edge.
 
-ghost use Rattle.std.specs.Prelude.{◌≡◌, ◌<◌, ◌^◌, [], length, replicate, map, All, IfOk};
+ghost use Rattle.std.specs.Prelude.{◌≡◌, ◌<◌, ◌≤◌, ◌^◌, [], length, replicate, map, All, IfOk};
 ghost use Rattle.tb_tree.specs.View.{plain_of};
 ghost use Rattle.tb_pattern.specs.View.{edges_of};
 ghost use Rattle.tb_parjoin.specs.Settings.{AreAllowed};
@@ -9,9 +9,11 @@ ghost use Rattle.tb_twig.specs.Branches.{branches_of};
 ghost use Rattle.tb_twig.specs.Lists.{items_in, branch_of};
 ghost use Rattle.tb_twig.specs.Links.{IsRising, lists_in};
 ghost use Rattle.tb_twig.specs.Joins.{first_lists};
+ghost use Rattle.tb_twig.specs.Trimmed.{AreTrimmed};
 ghost use Rattle.tb_twig.specs.Calls.{AreLinks, AreTraced};
 
 use crate::Link;
+use crate::branch::Branch;
 use crate::joins::{Joins, join_edge};
 use crate::layout::lay_out;
 use crate::nodes::Nodes;
@@ -24,9 +26,11 @@ use tb_parjoin::{JoinTrace, Settings};
 use tb_pattern::Pattern;
 use tb_plan::Order;
 
-/// The links of each edge by its number, and a trace of each join in the order in which they ran.
+/// The edges as they are laid out, the links of each by its number, and a trace of each join in the order in
+/// which they ran.
 #[derive(Debug, Drop)]
 pub struct Matched {
+    pub laid: Vec<Branch>,
     pub links: Vec<Vec<Link>>,
     pub trace: Vec<JoinTrace>,
 }
@@ -44,8 +48,11 @@ pub fn join_edges<R: Threads + Sync, G: Gate>(
     requires few { edge_count (edges_of p.now.edges) < 2 ^ 32 }
     requires order { IsOrderOf order.now (edges_of p.now.edges) }
     requires settings { AreAllowed settings.now }
+    ensures laid { IfOk result (λ matched. matched.laid.items ≡ map branch_of (branches_of (edges_of p.now.edges))) }
     ensures links { IfOk result (λ matched. AreLinks (plain_of store.now) (edges_of p.now.edges) matched.links.items) }
     ensures rise { IfOk result (λ matched. All (λ ls. IsRising ls.items) matched.links.items) }
+    ensures below { IfOk result (λ matched. All (λ ls. All (λ link. 1 ≤ link.below) ls.items) matched.links.items) }
+    ensures trimmed { IfOk result (λ matched. AreTrimmed matched.laid.items (lists_in matched.links.items)) }
     ensures many { IfOk result (λ matched. length matched.links.items ≡ edge_count (edges_of p.now.edges)) }
     ensures trace { IfOk result (λ matched. AreTraced (plain_of store.now) (edges_of p.now.edges) order.now matched.trace.items) }
 {
@@ -62,7 +69,7 @@ pub fn join_edges<R: Threads + Sync, G: Gate>(
         trace,
     } = joins;
     trim(alloc, laid.as_slice(), &mut links)?;
-    Ok(Matched { links, trace })
+    Ok(Matched { laid, links, trace })
 }
 
 /// The edges laid out, with all nodes that meet the tests and conditions, and no link.

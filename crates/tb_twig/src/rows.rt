@@ -125,11 +125,12 @@ pub fn size_below(edge: &Edge) -> u32
     requires { nodes_in (below_of (edge_of edge.now)) < 2 ^ 32 }
     ensures { result ≡ nodes_in (below_of (edge_of edge.now)) }
 {
-    size(edge.to.edges.as_slice())
+    nodes_in(edge.to.edges.as_slice())
 }
 
+/// How many edges these are, with all below them.
 #[cycle(sizes)]
-fn size(edges: &[Edge]) -> u32
+pub fn nodes_in(edges: &[Edge]) -> u32
     requires { nodes_in (edges_of edges.now) < 2 ^ 32 }
     ensures { result ≡ nodes_in (edges_of edges.now) }
 {

@@ -26,7 +26,7 @@ pub fn start_of(links: &[Link], n: u32) -> usize
 }
 
 /// How many of the first links lead from node n.
-fn run_len(links: &[Link], n: u32) -> usize
+pub fn run_len(links: &[Link], n: u32) -> usize
     ensures { result ≡ prefix_len (λ link. nat_eq link.above n) links.now }
 {
     let mut len = 0;

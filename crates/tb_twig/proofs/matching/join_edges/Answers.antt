@@ -6,9 +6,10 @@ use Rattle.tb_pattern.specs.View.{edges_of}
 use Rattle.tb_plan.specs.Orders.{IsOrderOf}
 use Rattle.tb_twig.specs.Lists.{items_in}
 use Rattle.tb_twig.specs.Links.{lists_in}
+use Rattle.tb_twig.specs.Trimmed.{AreTrimmed}
 use Rattle.tb_twig.specs.Calls.{AreTraced}
 use Rattle.tb_twig.specs.declared.link.Link.{Link}
-use Rattle.tb_twig.proofs.MatchingLaws.{holds-first, order-within, edge-within, edge-upper, edge-joinable, edge-above, edge-below, edge-few, edge-joined, turn-holds, end-holds, trim-above, all-rising, matched-links, matched-many, matched-trace}
+use Rattle.tb_twig.proofs.MatchingLaws.{holds-first, order-within, edge-within, edge-upper, edge-joinable, edge-above, edge-below, edge-few, edge-joined, turn-holds, end-holds, trim-above, all-rising, matched-links, matched-many, matched-trace, matched-trimmed, matched-below}
 use Rattle.tb_twig.proofs.matching.join_edges.Goals as goal
 
 pub order-init : goal.order-init
@@ -133,3 +134,24 @@ returns-clause-trace g c =
     let held = end-holds root es own c.order.e-index (map items_in j.lists.items) (lists_in j.links.items) (map (λ t. t.size) j.trace.items) c.order-test.false c.order.invariant.holds in
     subst (λ o. AreTraced root es o j.trace.items) c.edges-e-items.ensures.listed
     (matched-trace root es own ordered c.as_slice.result.now (c.as_slice.ensures.value ∙ c.order.invariant.laid) (map items_in j.lists.items) (lists_in j.links.items) j.trace.items held c.trim.new.links.items c.in_ok-trim.ensures.trimmed)
+
+pub returns-clause-below : goal.returns-clause-below
+returns-clause-below g c =
+    let root = plain_of c.args.store.now in
+    let es = edges_of c.args.p.now.edges in
+    let own = c.edges-e-items.result.now in
+    let j = c.order.joins in
+    let ordered = subst (λ o. IsOrderOf o es) (sym c.edges-e-items.ensures.listed) c.requires.order in
+    let held = end-holds root es own c.order.e-index (map items_in j.lists.items) (lists_in j.links.items) (map (λ t. t.size) j.trace.items) c.order-test.false c.order.invariant.holds in
+    matched-below root es own ordered c.as_slice.result.now (c.as_slice.ensures.value ∙ c.order.invariant.laid) (map items_in j.lists.items) (lists_in j.links.items) j.trace.items held c.trim.new.links.items c.in_ok-trim.ensures.trimmed
+
+pub returns-clause-trimmed : goal.returns-clause-trimmed
+returns-clause-trimmed g c =
+    let root = plain_of c.args.store.now in
+    let es = edges_of c.args.p.now.edges in
+    let own = c.edges-e-items.result.now in
+    let j = c.order.joins in
+    let ordered = subst (λ o. IsOrderOf o es) (sym c.edges-e-items.ensures.listed) c.requires.order in
+    let held = end-holds root es own c.order.e-index (map items_in j.lists.items) (lists_in j.links.items) (map (λ t. t.size) j.trace.items) c.order-test.false c.order.invariant.holds in
+    subst (λ l. AreTrimmed l (lists_in c.trim.new.links.items)) c.as_slice.ensures.value
+    (matched-trimmed root es own ordered c.as_slice.result.now (c.as_slice.ensures.value ∙ c.order.invariant.laid) (map items_in j.lists.items) (lists_in j.links.items) j.trace.items held c.trim.new.links.items c.in_ok-trim.ensures.trimmed)
