@@ -1,0 +1,10 @@
+pub mod WritingLaws
+pub mod CodeLaws
+pub mod FullLaws
+pub mod TreeLaws
+pub mod NodeLaws
+pub mod WriteLaws
+pub mod BareLaws
+pub mod TextLaws
+pub mod ChoiceLaws
+pub mod AnswerLaws
