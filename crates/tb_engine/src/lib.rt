@@ -16,3 +16,6 @@ mod write;
 pub use answering::answer;
 pub use fault::EngineFault;
 pub use tb_parjoin::Answer;
+
+#[cfg(test)]
+mod tests;
