@@ -20,7 +20,8 @@ use Rattle.tb_query.specs.declared.operand.Comparison.{Comparison}
 use Rattle.tb_query.specs.declared.path.Path.{Path}
 use Rattle.tb_query.specs.declared.path.Start.{Start}
 use Rattle.tb_query.specs.declared.path.Start.TheVariants as start
-use Rattle.tb_tlc.specs.Ties.{Tie, ties, lets_after, is_free, starts_at, starts_before, leads_to, is_document, tie_for}
+use Rattle.tb_tlc.specs.Planned.{Columns, Draft, with_clause}
+use Rattle.tb_tlc.specs.Ties.{has_column, Tie, ties, lets_after, is_free, starts_at, starts_before, leads_to, is_document, tie_for}
 use Rattle.tb_tlc.proofs.RowLaws.{both, all_given-append}
 use Rattle.tb_tlc.proofs.JoinPlans.{is_tied, StartsElsewhere}
 use Rattle.tb_tlc.proofs.TieLaws.{ties-fail, found-all}
@@ -147,30 +148,30 @@ module _ (docs : Docs) where
     pub second : is_free_start tie.1.start later ≡ true
     pub fails : (t : Tuple) → is_tied docs tie t ≡ false → all_tested (nodes_at docs (lets_after lets later) t) (as_tested conds) ≡ Some false
 
-  before-free : (var : ℕ) (later : List Clause) (from : Start) → starts_before var later from ≡ true → StartsElsewhere docs var from × (is_free_start from later ≡ true)
-  before-free var later (start.Document name) is = absurd (let e : ◌≡◌ {A = Bool} false true = is in cc)
-  before-free var later (start.Var v) is =
-      let parts = and_parts (not (v == var)) (is_free v later) is in
-      ((λ t o. ap (λ b. from_node (if b then o else bound v t)) (not-true (v == var) parts.0)), parts.1)
+  before-free : (columns : Columns) (var : ℕ) (later : List Clause) (from : Start) → starts_before columns var later from ≡ true → StartsElsewhere docs var from × (is_free_start from later ≡ true)
+  before-free columns var later (start.Document name) is = absurd (let e : ◌≡◌ {A = Bool} false true = is in cc)
+  before-free columns var later (start.Var v) is =
+      let parts = and_parts (not (v == var)) (has_column v columns && is_free v later) is in
+      ((λ t o. ap (λ b. from_node (if b then o else bound v t)) (not-true (v == var) parts.0)), (and_parts (has_column v columns) (is_free v later) parts.1).1)
 
   at-free : (var : ℕ) (later : List Clause) (from : Start) → starts_at var from ≡ true → is_free var later ≡ true → is_free_start from later ≡ true
   at-free var later (start.Document name) is free = refl
   at-free var later (start.Var v) is free = subst (λ u. is_free u later ≡ true) (eqb-true var v is) free
 
-  pub chosen : (conds : List Comparison) (var : ℕ) (from : Start) (lets : Lets) (later : List Clause) (tie : Tie)
-      → tie_for (ties (lets_after lets later) conds) var from later ≡ Some tie → Chosen conds var lets later tie
-  chosen conds var from lets later tie is = by (is_document from && is_free var later) refl is
+  pub chosen : (conds : List Comparison) (columns : Columns) (var : ℕ) (from : Start) (lets : Lets) (later : List Clause) (tie : Tie)
+      → tie_for (ties (lets_after lets later) conds) columns var from later ≡ Some tie → Chosen conds var lets later tie
+  chosen conds columns var from lets later tie is = by (is_document from && is_free var later) refl is
     where
       Fails : Tie → Type 0
       Fails k = (t : Tuple) → is_tied docs k t ≡ false → all_tested (nodes_at docs (lets_after lets later) t) (as_tested conds) ≡ Some false
 
-      by : (b : Bool) → (is_document from && is_free var later) ≡ b → (if b then find (leads_to var later) (ties (lets_after lets later) conds) else None) ≡ Some tie → Chosen conds var lets later tie
+      by : (b : Bool) → (is_document from && is_free var later) ≡ b → (if b then find (leads_to columns var later) (ties (lets_after lets later) conds) else None) ≡ Some tie → Chosen conds var lets later tie
       by false was e = absurd (none-some tie e)
       by true was e =
           let free = (and_parts (is_document from) (is_free var later) was).1 in
-          let known = found-all Fails (leads_to var later) (ties (lets_after lets later) conds) tie every e in
-          let ends = and_parts (starts_at var tie.1.start) (starts_before var later tie.0.start) known.0 in
-          let before = before-free var later tie.0.start ends.1 in
+          let known = found-all Fails (leads_to columns var later) (ties (lets_after lets later) conds) tie every e in
+          let ends = and_parts (starts_at var tie.1.start) (starts_before columns var later tie.0.start) known.0 in
+          let before = before-free columns var later tie.0.start ends.1 in
           record {
             elsewhere = before.0;
             first = before.1;
@@ -182,25 +183,25 @@ module _ (docs : Docs) where
           every = all-turned (λ t k. is_tied docs k t ≡ false → all_tested (nodes_at docs (lets_after lets later) t) (as_tested conds) ≡ Some false) (ties (lets_after lets later) conds) (λ t. ties-fail docs (lets_after lets later) t conds)
 
   -- the clauses, with the tuples dropped in which a chosen tie fails
-  abbrev pub cut : List Tie → List Clause → Bindings → Clause → Bindings
-  cut all later b (For var empty path) = record {
-    tuples = cut_by (tie_for all var (standing b.lets path).start later) (flat_map (λ t. extended var empty t (nodes_in docs (standing b.lets path) t)) b.tuples);
+  abbrev pub cut : List Tie → List Clause → Draft → Bindings → Clause → Bindings
+  cut all later d b (For var empty path) = record {
+    tuples = cut_by (tie_for all d.scope.columns var (standing d.scope.lets path).start later) (flat_map (λ t. extended var empty t (nodes_in docs (standing b.lets path) t)) b.tuples);
     lets = b.lets;
   }
-  cut all later b (Let var path) = bound_by docs b (Let var path)
+  cut all later d b (Let var path) = bound_by docs b (Let var path)
 
-  abbrev pub early : List Tie → Bindings → List Clause → Bindings
-  early all b [] = b
-  early all b (c ∷ later) = early all (cut all later b c) later
+  abbrev pub early : List Tie → Draft → Bindings → List Clause → Bindings
+  early all d b [] = b
+  early all d b (c ∷ later) = early all (with_clause all later d c) (cut all later d b c) later
 
-  cut-kept : (conds : List Comparison) (var : ℕ) (from : Start) (lets : Lets) (later : List Clause) (ts : List Tuple)
-      → kept conds (cut_by (tie_for (ties (lets_after lets later) conds) var from later) ts) lets later ≡ kept conds ts lets later
-  cut-kept conds var from lets later ts = by (tie_for (ties (lets_after lets later) conds) var from later) refl
+  cut-kept : (conds : List Comparison) (columns : Columns) (var : ℕ) (from : Start) (lets : Lets) (later : List Clause) (ts : List Tuple)
+      → kept conds (cut_by (tie_for (ties (lets_after lets later) conds) columns var from later) ts) lets later ≡ kept conds ts lets later
+  cut-kept conds columns var from lets later ts = by (tie_for (ties (lets_after lets later) conds) columns var from later) refl
     where
-      by : (o : Option Tie) → tie_for (ties (lets_after lets later) conds) var from later ≡ o → kept conds (cut_by o ts) lets later ≡ kept conds ts lets later
+      by : (o : Option Tie) → tie_for (ties (lets_after lets later) conds) columns var from later ≡ o → kept conds (cut_by o ts) lets later ≡ kept conds ts lets later
       by None is = refl
       by (Some tie) is =
-          let known = chosen conds var from lets later tie is in
+          let known = chosen conds columns var from lets later tie is in
           kept-filter conds (is_tied docs tie) later lets ts (each known ts)
         where
           each : Chosen conds var lets later tie → (us : List Tuple) → AllByRecursion (λ t. is_tied docs tie t ≡ false → kept conds (t ∷ []) lets later ≡ Some []) us
@@ -208,20 +209,25 @@ module _ (docs : Docs) where
           each known (u ∷ us) = ((λ fails. tie-drops conds tie later lets (u ∷ []) known.first known.second known.fails (fails, tt)), each known us)
 
   -- The conditions keep the same.
-  pub early-kept : (conds : List Comparison) (all : List Tie) (cs : List Clause) (b : Bindings) → all ≡ ties (lets_after b.lets cs) conds
-      → kept_tuples docs (early all b cs) conds ≡ kept_tuples docs (fold (bound_by docs) b cs) conds
-  early-kept conds all [] b are = refl
-  early-kept conds all (For var empty path ∷ later) b are =
+  pub early-kept : (conds : List Comparison) (all : List Tie) (cs : List Clause) (d : Draft) (b : Bindings) → all ≡ ties (lets_after b.lets cs) conds
+      → kept_tuples docs (early all d b cs) conds ≡ kept_tuples docs (fold (bound_by docs) b cs) conds
+  early-kept conds all [] d b are = refl
+  early-kept conds all (For var empty path ∷ later) d b are =
       let ts = flat_map (λ t. extended var empty t (nodes_in docs (standing b.lets path) t)) b.tuples in
-      early-kept conds all later (cut all later b (For var empty path)) are
-      ∙ ap (λ ks. kept conds (cut_by (tie_for ks var (standing b.lets path).start later) ts) b.lets later) are
-      ∙ cut-kept conds var (standing b.lets path).start b.lets later ts
-  early-kept conds all (Let var path ∷ later) b are = early-kept conds all later (cut all later b (Let var path)) are
+      let from = (standing d.scope.lets path).start in
+      let c = For var empty path in
+      early-kept conds all later (with_clause all later d c) (cut all later d b c) are
+      ∙ ap (λ ks. kept conds (cut_by (tie_for ks d.scope.columns var from later) ts) b.lets later) are
+      ∙ cut-kept conds d.scope.columns var from b.lets later ts
+  early-kept conds all (Let var path ∷ later) d b are =
+      let c = Let var path in
+      early-kept conds all later (with_clause all later d c) (cut all later d b c) are
 
-  pub early-lets : (all : List Tie) (cs : List Clause) (b : Bindings) → (early all b cs).lets ≡ (fold (bound_by docs) b cs).lets
-  early-lets all cs b = by cs b b refl
+  pub early-lets : (all : List Tie) (cs : List Clause) (d : Draft) (b : Bindings) → (early all d b cs).lets ≡ (fold (bound_by docs) b cs).lets
+  early-lets all cs d b = by cs d b b refl
     where
-      by : (cs : List Clause) (x y : Bindings) → x.lets ≡ y.lets → (early all x cs).lets ≡ (fold (bound_by docs) y cs).lets
-      by [] x y same = same
-      by (For var empty path ∷ later) x y same = by later (cut all later x (For var empty path)) (bound_by docs y (For var empty path)) same
-      by (Let var path ∷ later) x y same = by later (cut all later x (Let var path)) (bound_by docs y (Let var path)) (ap (λ lets. (var, standing lets path) ∷ lets) same)
+      by : (cs : List Clause) (e : Draft) (x y : Bindings) → x.lets ≡ y.lets → (early all e x cs).lets ≡ (fold (bound_by docs) y cs).lets
+      by [] e x y same = same
+      by (For var empty path ∷ later) e x y same = by later (with_clause all later e (For var empty path)) (cut all later e x (For var empty path)) (bound_by docs y (For var empty path)) same
+      by (Let var path ∷ later) e x y same =
+          by later (with_clause all later e (Let var path)) (cut all later e x (Let var path)) (bound_by docs y (Let var path)) (ap (λ lets. (var, standing lets path) ∷ lets) same)

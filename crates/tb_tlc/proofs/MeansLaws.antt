@@ -34,6 +34,7 @@ use Rattle.tb_tlc.proofs.ClauseLaws.{Plans, for-plans, let-plans, first-plans}
 use Rattle.tb_tlc.proofs.JoinPlans.{join-plans}
 use Rattle.tb_tlc.proofs.EarlyLaws.{cut_by, cut, early, chosen, early-kept, early-lets}
 use Rattle.tb_tlc.specs.Ties.{Tie, tie_for, ties, with_let, lets_after}
+use Rattle.tb_query.specs.declared.path.Start.{Start}
 use Rattle.tb_query.specs.declared.clause.Clause.{Clause}
 use Rattle.tb_query.specs.declared.clause.Clause.TheVariants.{For, Let}
 use Rattle.std.specs.List.{flat_map}
@@ -148,33 +149,31 @@ module _ (docs : Docs) where
 
   -- The operators of a clause make rows of the tuples that it leaves, the early join's test included.
   clause-plans : (all : List Tie) (later : List Clause) (conds : List Comparison) (d : Draft) (b : Bindings) (c : Clause) → all ≡ ties (lets_after (with_let b.lets c) later) conds
-      → Plans docs d b → Plans docs (with_clause all later d c) (cut docs all later b c)
+      → Plans docs d b → Plans docs (with_clause all later d c) (cut docs all later d b c)
   clause-plans all later conds d b (Let var path) are plans = let-plans docs d b var path plans
   clause-plans all later conds d b (For var empty path) are plans =
-      by (tie_for all var (standing d.scope.lets path).start later) refl
+      subst (λ lets. Plans docs (with_for d var empty path (tie_for all d.scope.columns var from later))
+      (record { tuples = cut_by docs (tie_for all d.scope.columns var from later) (flat_map (λ t. extended var empty t (nodes_in docs (standing lets path) t)) b.tuples); lets = b.lets }))
+      plans.lets (by (tie_for all d.scope.columns var from later) refl)
     where
-      same : (o : Option Tie) → tie_for all var (standing d.scope.lets path).start later ≡ o
+      from : Start
+      from = (standing d.scope.lets path).start
+      by : (o : Option Tie) → tie_for all d.scope.columns var from later ≡ o
           → Plans docs (with_for d var empty path o) (record { tuples = cut_by docs o (flat_map (λ t. extended var empty t (nodes_in docs (standing d.scope.lets path) t)) b.tuples); lets = b.lets })
-      same None is = for-plans docs d b plans var empty path
-      same (Some tie) is =
+      by None is = for-plans docs d b plans var empty path
+      by (Some tie) is =
           join-plans docs d b plans var empty path tie
-          (chosen docs conds var (standing d.scope.lets path).start b.lets later tie (ap (λ ks. tie_for ks var (standing d.scope.lets path).start later) (sym are) ∙ is)).elsewhere
-
-      by : (o : Option Tie) → tie_for all var (standing d.scope.lets path).start later ≡ o → Plans docs (with_for d var empty path (tie_for all var (standing d.scope.lets path).start later)) (cut docs all later b (For var empty path))
-      by o is =
-          subst (λ lets. Plans docs (with_for d var empty path (tie_for all var (standing d.scope.lets path).start later))
-          (record { tuples = cut_by docs (tie_for all var (standing lets path).start later) (flat_map (λ t. extended var empty t (nodes_in docs (standing lets path) t)) b.tuples); lets = b.lets }))
-          plans.lets (same (tie_for all var (standing d.scope.lets path).start later) refl)
+          (chosen docs conds d.scope.columns var from b.lets later tie (ap (λ ks. tie_for ks d.scope.columns var from later) (sym are) ∙ is)).elsewhere
 
   clauses-plan : (all : List Tie) (conds : List Comparison) (cs : List Clause) (d : Draft) (b : Bindings) → all ≡ ties (lets_after b.lets cs) conds
-      → Plans docs d b → Plans docs (with_clauses all d cs) (early docs all b cs)
+      → Plans docs d b → Plans docs (with_clauses all d cs) (early docs all d b cs)
   clauses-plan all conds [] d b are plans = plans
   clauses-plan all conds (For var empty path ∷ later) d b are plans =
       let c = For var empty path in
-      clauses-plan all conds later (with_clause all later d c) (cut docs all later b c) are (clause-plans all later conds d b c are plans)
+      clauses-plan all conds later (with_clause all later d c) (cut docs all later d b c) are (clause-plans all later conds d b c are plans)
   clauses-plan all conds (Let var path ∷ later) d b are plans =
       let c = Let var path in
-      clauses-plan all conds later (with_clause all later d c) (cut docs all later b c) are (clause-plans all later conds d b c are plans)
+      clauses-plan all conds later (with_clause all later d c) (cut docs all later d b c) are (clause-plans all later conds d b c are plans)
 
   pub plan-means : (q : flwor.Flwor) → plan_trees docs (planned_flwor q) ≡ flwor_trees docs q (back_of q.back)
   plan-means q =
@@ -182,9 +181,9 @@ module _ (docs : Docs) where
       let all = ties (lets_after [] q.clauses) q.conds in
       let back = back_of q.back in
       let rest = λ (lets : Lets) (o : Option (List Tuple)). option_and_then (trees_of_groups docs lets back) (option_and_then (λ tuples. ordered_groups docs lets q.keys (groups_of docs lets q.group tuples)) o) in
-      plan-trees (with_clauses all first_draft q.clauses) (early docs all b q.clauses) q back
+      plan-trees (with_clauses all first_draft q.clauses) (early docs all first_draft b q.clauses) q back
       (clauses-plan all q.conds q.clauses first_draft b refl (first-plans docs))
-      ∙ ap₂ rest (early-lets docs all q.clauses b) (early-kept docs q.conds all q.clauses b refl)
+      ∙ ap₂ rest (early-lets docs all q.clauses first_draft b) (early-kept docs q.conds all q.clauses first_draft b refl)
 
 -- and so does the plan of any query
 pub translated-means : (q : Query) (docs : Docs) → meaning docs (translated q) ≡ answer docs q

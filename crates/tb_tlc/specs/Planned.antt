@@ -136,7 +136,7 @@ with_for d var empty path tie = with_stood d var (for_mark empty) (standing d.sc
 -- a clause, with those to come; `LET` adds no column
 abbrev pub with_clause : List Tie → List Clause → Draft → Clause → Draft
 with_clause all later d (For var empty path) =
-    with_for d var empty path (tie_for all var (standing d.scope.lets path).start later)
+    with_for d var empty path (tie_for all d.scope.columns var (standing d.scope.lets path).start later)
 with_clause all later d (Let var path) = record {
   ops = d.ops;
   scope = record { lets = (var, standing d.scope.lets path) ∷ d.scope.lets; columns = d.scope.columns };

@@ -1,5 +1,5 @@
 -- Which conditions tie a variable to an earlier one, so that a plan can join by value where `FOR` binds it.
-use Rattle.std.specs.Prelude.{ℕ, ◌==◌, Bool, true, false, not, ◌&&◌, if◌then◌else◌, List, [], ◌∷◌, Option, None, fold, flat_map}
+use Rattle.std.specs.Prelude.{ℕ, ◌==◌, Bool, true, false, not, ◌&&◌, ◌||◌, if◌then◌else◌, List, [], ◌∷◌, Option, None, fold, flat_map}
 use Rattle.std.specs.List.{find}
 use Rattle.tb_number.specs.declared.op.CmpOp.{CmpOp}
 use Rattle.tb_number.specs.declared.op.CmpOp.TheVariants.{Eq, Ne, Lt, Le, Gt, Ge}
@@ -68,14 +68,20 @@ abbrev pub starts_at : ℕ → Start → Bool
 starts_at var (Document name) = false
 starts_at var (Var v) = var == v
 
--- at another variable, which the clauses to come don't bind
-abbrev pub starts_before : ℕ → List Clause → Start → Bool
-starts_before var later (Document name) = false
-starts_before var later (Var v) = not (v == var) && is_free v later
+-- the variable has a column
+abbrev pub has_column : ℕ → List (ℕ × ℕ) → Bool
+has_column var [] = false
+has_column var (c ∷ columns) = (var == c.0) || has_column var columns
+
+-- at another variable that has a column already, and that the clauses to come don't bind
+abbrev pub starts_before : List (ℕ × ℕ) → ℕ → List Clause → Start → Bool
+starts_before columns var later (Document name) = false
+starts_before columns var later (Var v) = not (v == var) && (has_column v columns && is_free v later)
 
 -- the tie leads from an earlier variable to this one
-abbrev pub leads_to : ℕ → List Clause → Tie → Bool
-leads_to var later tie = starts_at var tie.1.start && starts_before var later tie.0.start
+abbrev pub leads_to : List (ℕ × ℕ) → ℕ → List Clause → Tie → Bool
+leads_to columns var later tie =
+    starts_at var tie.1.start && starts_before columns var later tie.0.start
 
 abbrev pub is_document : Start → Bool
 is_document (Document name) = true
@@ -83,6 +89,6 @@ is_document (Var v) = false
 
 -- The first tie that leads to a variable which `FOR` binds to the nodes of a path from a document, and which
 -- the clauses to come don't bind again.
-abbrev pub tie_for : List Tie → ℕ → Start → List Clause → Option Tie
-tie_for all var start later =
-    if is_document start && is_free var later then find (leads_to var later) all else None
+abbrev pub tie_for : List Tie → List (ℕ × ℕ) → ℕ → Start → List Clause → Option Tie
+tie_for all columns var start later =
+    if is_document start && is_free var later then find (leads_to columns var later) all else None

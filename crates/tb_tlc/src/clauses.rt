@@ -53,7 +53,7 @@ fn push_clause(
     match clause {
         Clause::For { var, empty, path } => {
             let path = standing(alloc, scope.lets.as_slice(), path)?;
-            let tie = tie_for(ties, *var, &path.start, later);
+            let tie = tie_for(ties, scope.columns.as_slice(), *var, &path.start, later);
             push_for(alloc, ops, scope, next, *var, for_mark(*empty), path, tie)
         }
         Clause::Let { var, path } => {

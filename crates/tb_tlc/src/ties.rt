@@ -4,7 +4,7 @@ ghost use Rattle.std.specs.Prelude.{◌≡◌, ◌++◌, [], IfOk, OnOk, option_
 ghost use Rattle.tb_query.specs.Tuples.{standing};
 ghost use Rattle.tb_query.specs.declared.operand.Operand.TheVariants.{Nodes};
 ghost use Rattle.tb_tlc.specs.Ties.{ties, ties_of, ties_of_sides, both_ways, is_equality, with_let, lets_after};
-ghost use Rattle.tb_tlc.specs.Ties.{binds, is_free, starts_at, starts_before, leads_to, is_document, tie_for};
+ghost use Rattle.tb_tlc.specs.Ties.{binds, is_free, has_column, starts_at, starts_before, leads_to, is_document, tie_for};
 
 use crate::scope::standing;
 use std::alloc::{AllocError, Global};
@@ -125,11 +125,12 @@ fn is_equality(op: CmpOp) -> bool
 /// clauses to come don't bind again.
 pub fn tie_for<'a>(
     all: &'a [(Path, Path)],
+    columns: &[(u32, u32)],
     var: u32,
     start: &Start,
     later: &[Clause],
 ) -> Option<&'a (Path, Path)>
-    ensures { option_map (λ tie. tie.now) result ≡ tie_for all.now var start.now later.now }
+    ensures { option_map (λ tie. tie.now) result ≡ tie_for all.now columns.now var start.now later.now }
 {
     if !is_document(start) {
         return None;
@@ -138,7 +139,7 @@ pub fn tie_for<'a>(
         return None;
     }
     'ties: for tie in all {
-        if leads_to(var, later, tie) {
+        if leads_to(columns, var, later, tie) {
             return Some(tie);
         }
     }
@@ -146,10 +147,10 @@ pub fn tie_for<'a>(
 }
 
 /// Whether the tie leads from an earlier variable to this one.
-fn leads_to(var: u32, later: &[Clause], tie: &(Path, Path)) -> bool
-    ensures { result ≡ leads_to var later.now tie.now }
+fn leads_to(columns: &[(u32, u32)], var: u32, later: &[Clause], tie: &(Path, Path)) -> bool
+    ensures { result ≡ leads_to columns.now var later.now tie.now }
 {
-    starts_at(var, &tie.1.start) && starts_before(var, later, &tie.0.start)
+    starts_at(var, &tie.1.start) && starts_before(columns, var, later, &tie.0.start)
 }
 
 fn starts_at(var: u32, start: &Start) -> bool
@@ -161,14 +162,27 @@ fn starts_at(var: u32, start: &Start) -> bool
     }
 }
 
-/// Whether it is another variable that the clauses to come don't bind.
-fn starts_before(var: u32, later: &[Clause], start: &Start) -> bool
-    ensures { result ≡ starts_before var later.now start.now }
+/// Whether it is another variable that has a column already, and that the clauses to come don't bind.
+fn starts_before(columns: &[(u32, u32)], var: u32, later: &[Clause], start: &Start) -> bool
+    ensures { result ≡ starts_before columns.now var later.now start.now }
 {
     match start {
         Start::Document(_) => false,
-        Start::Var(other) => *other != var && is_free(*other, later),
+        Start::Var(other) => {
+            *other != var && has_column(*other, columns) && is_free(*other, later)
+        }
     }
+}
+
+fn has_column(var: u32, columns: &[(u32, u32)]) -> bool
+    ensures { result ≡ has_column var columns.now }
+{
+    'columns: for placed in columns {
+        if var == placed.0 {
+            return true;
+        }
+    }
+    false
 }
 
 /// Whether no `FOR` among the clauses binds the variable.

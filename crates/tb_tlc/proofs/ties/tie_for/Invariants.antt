@@ -5,4 +5,4 @@ use Rattle.tb_tlc.proofs.ties.tie_for.Given as goal
 
 -- none so far leads to the variable
 abbrev pub invariant-ties : goal.invariant-ties
-invariant-ties l = find (leads_to l.var l.later) (drop l.tie-index l.all) ≡ find (leads_to l.var l.later) l.all
+invariant-ties l = find (leads_to l.columns l.var l.later) (drop l.tie-index l.all) ≡ find (leads_to l.columns l.var l.later) l.all
