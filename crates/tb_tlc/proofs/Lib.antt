@@ -21,3 +21,6 @@ pub mod ShapePlans
 pub mod MeansLaws
 pub mod WidthLaws
 pub mod SizeLaws
+pub mod GoodLaws
+pub mod FormedLaws
+pub mod ScopedLaws

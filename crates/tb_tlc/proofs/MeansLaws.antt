@@ -158,6 +158,7 @@ module _ (docs : Docs) where
     where
       from : Start
       from = (standing d.scope.lets path).start
+
       by : (o : Option Tie) → tie_for all d.scope.columns var from later ≡ o
           → Plans docs (with_for d var empty path o) (record { tuples = cut_by docs o (flat_map (λ t. extended var empty t (nodes_in docs (standing d.scope.lets path) t)) b.tuples); lets = b.lets })
       by None is = for-plans docs d b plans var empty path

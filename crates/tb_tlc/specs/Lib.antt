@@ -6,3 +6,4 @@ pub mod Planned
 pub mod Returned
 pub mod Scopes
 pub mod Translated
+pub mod WellFormed

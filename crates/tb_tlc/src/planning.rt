@@ -4,10 +4,12 @@ ghost use Rattle.std.specs.Prelude.{◌≡◌, ◌<◌, ◌≤◌, [], ◌∷◌
 ghost use Rattle.tb_tree.specs.Documents.{Docs};
 ghost use Rattle.tb_query.specs.Actions.{actions_of, size_of_actions};
 ghost use Rattle.tb_query.specs.Answer.{answer};
+ghost use Rattle.tb_query.specs.Plannable.{IsPlannable};
 ghost use Rattle.tb_tlc.specs.declared.plan.Op.TheVariants.{Match};
 ghost use Rattle.tb_tlc.specs.Meaning.{meaning};
 ghost use Rattle.tb_tlc.specs.Returned.{planned_flwor};
 ghost use Rattle.tb_tlc.specs.Translated.{translated, most_columns};
+ghost use Rattle.tb_tlc.specs.WellFormed.{IsWellFormed};
 
 use crate::clauses::push_clauses;
 use crate::conditions::push_conds;
@@ -21,11 +23,13 @@ use tb_pattern::Pattern;
 use tb_query::{Flwor, Query};
 use tb_tree::Items;
 
-/// The plan of a query. Over any documents it means what the query means.
+/// The plan of a query. Over any documents it means what the query means, and where the query is plannable, as
+/// each is that is read, the plan is well formed.
 pub fn translate(alloc: Global, query: &Query) -> Result<Plan, AllocError>
     requires few { size_of_actions (actions_of query.now) ≤ 65536 }
     ensures plan { IfOk result (λ plan. plan.ops ≡ translated query.now) }
     ensures means { IfOk result (λ plan. (docs : Docs) → meaning docs plan.ops ≡ answer docs query.now) }
+    ensures formed { IfOk result (λ plan. IsPlannable query.now → IsWellFormed plan.ops) }
 {
     match query {
         Query::Match(pattern) => match_alone(alloc, pattern),

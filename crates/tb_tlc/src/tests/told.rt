@@ -21,7 +21,13 @@ pub fn tell(alloc: Global, ops: &[Op]) -> Result<Vec<u8>, AllocError> {
 fn tell_op(alloc: Global, op: &Op, out: &mut Vec<u8>) -> Result<(), AllocError> {
     match op {
         Op::Match { .. } => out.extend_from_slice(b"match"),
-        Op::Select { start, steps, mark } => tell_select(alloc, start, steps.as_slice(), *mark, out),
+        Op::Select { start, steps, mark } => tell_select(
+            alloc,
+            start,
+            steps.as_slice(),
+            *mark,
+            out,
+        ),
         Op::Filter { left, op, right } => tell_filter(alloc, *left, *op, right, out),
         Op::ValueJoin { left, right } => tell_join(alloc, *left, *right, out),
         Op::Group { key } => tell_of(alloc, b"group ", *key, out),
@@ -122,12 +128,7 @@ fn sign(op: CmpOp) -> &'static [u8] {
     }
 }
 
-fn tell_join(
-    alloc: Global,
-    left: u32,
-    right: u32,
-    out: &mut Vec<u8>,
-) -> Result<(), AllocError> {
+fn tell_join(alloc: Global, left: u32, right: u32, out: &mut Vec<u8>) -> Result<(), AllocError> {
     tell_of(alloc, b"join ", left, out)?;
     tell_of(alloc, b" ", right, out)
 }
@@ -144,7 +145,12 @@ fn aggregate(kind: AggKind) -> &'static [u8] {
 fn tell_order(alloc: Global, keys: &[SortKey], out: &mut Vec<u8>) -> Result<(), AllocError> {
     out.extend_from_slice(b"order")?;
     for key in keys {
-        tell_of(alloc, if key.descending { b" down " } else { b" up " }, key.column, out)?;
+        tell_of(
+            alloc,
+            if key.descending { b" down " } else { b" up " },
+            key.column,
+            out,
+        )?;
     }
     Ok(())
 }
