@@ -1,8 +1,7 @@
 -- The plan of a plannable query is well formed.
-use Rattle.std.proofs.Common.{◌≡◌, ℕ, ◌+◌, ◌*◌, ◌==◌, ◌<◌, ◌≤◌, Bool, true, false, not, ◌&&◌, ◌||◌, if◌then◌else◌, List, [], ◌∷◌, ◌++◌, length, map, refl, sym, ap, ap₂, ◌∙◌, subst, arith, Option, Some, None, append_assoc, append-nil, rules}
-use Rattle.std.specs.Bool.{⊤}
-use Rattle.std.specs.List.{flat_map, filter, AllByRecursion}
-use Rattle.tb_tree.proofs.lists.Alls.{all-append, all-weaker}
+use Rattle.std.proofs.Common.{◌≡◌, ℕ, ◌+◌, ◌==◌, ◌<◌, ◌≤◌, Bool, true, false, if◌then◌else◌, List, [], ◌∷◌, ◌++◌, map, refl, sym, ap, ◌∙◌, subst, arith, None, rules}
+use Rattle.std.specs.List.{flat_map, AllByRecursion}
+use Rattle.tb_tree.proofs.lists.Alls.{all-append}
 use Rattle.tb_tree.specs.declared.shape.ShapeElem.{ShapeElem, roll-ShapeElem, the_lemmas}
 use Rattle.tb_tree.specs.declared.shape.ShapePart.{ShapePart, roll-ShapePart, fold-ShapePart}
 use Rattle.tb_tree.specs.declared.shape.ShapePart.TheOpen.{ShapePart-F}
@@ -10,13 +9,11 @@ use Rattle.tb_tree.specs.declared.shape.ShapeAttr.{ShapeAttr}
 use Rattle.tb_tree.specs.declared.shape.ShapeContent.{ShapeContent}
 use Rattle.tb_pattern.specs.declared.pattern.Mark.{Mark}
 use Rattle.tb_pattern.specs.declared.pattern.Mark.TheVariants as mark
-use Rattle.tb_pattern.specs.declared.cond.Literal as literal
 use Rattle.tb_pattern.specs.declared.cond.Literal.TheVariants as literals
 use Rattle.tb_query.specs.Actions.{names_of_attributes}
-use Rattle.tb_query.specs.Comparisons.{has_sum, as_tested}
-use Rattle.tb_query.specs.Parts.{PlainCons, element, PlainParts, no_parts, inner, content, PlainBack, nodes_back, cons_back}
+use Rattle.tb_query.specs.Parts.{element, PlainParts, no_parts, inner, content}
 use Rattle.tb_query.specs.Plannable.{StartsBefore, StepsFrom}
-use Rattle.tb_query.specs.Tuples.{Lets, let_path, standing, standing_from}
+use Rattle.tb_query.specs.Tuples.{let_path, standing_from}
 use Rattle.tb_query.specs.declared.path.Path.{Path}
 use Rattle.tb_query.specs.declared.path.Start.{Start}
 use Rattle.tb_query.specs.declared.path.Start.TheVariants as start
@@ -30,13 +27,11 @@ use Rattle.tb_query.specs.declared.clause.Key.{Key}
 use Rattle.tb_query.specs.declared.back.AttrPart.{AttrPart}
 use Rattle.tb_query.specs.declared.back.Content as contents
 use Rattle.tb_query.specs.declared.back.Content.TheVariants as of_content
-use Rattle.tb_query.proofs.AlikeLaws.{each-filter}
-use Rattle.tb_tlc.specs.declared.plan.ColumnStart.TheVariants.{Document, Column}
 use Rattle.tb_tlc.specs.declared.plan.Op.{Op}
-use Rattle.tb_tlc.specs.declared.plan.Op.TheVariants.{Aggregate, Filter, Order, ValueJoin}
-use Rattle.tb_tlc.specs.Planned.{Columns, column_of, column_start, Scope, stand_op, path_op, operand_ops, operand_width, operand_column, right_ops, right_width, right_against, literal_against, cond_ops, cond_width, conds_ops, conds_width, keys_ops, keys_width, sort_keys, order_ops}
+use Rattle.tb_tlc.specs.declared.plan.Op.TheVariants.{Filter}
+use Rattle.tb_tlc.specs.Planned.{Columns, column_of, column_start, Scope, path_op, operand_ops, operand_width, operand_column, right_ops, right_width, right_against, cond_ops, cond_width, conds_ops, conds_width, keys_ops, keys_width, sort_keys, order_ops}
 use Rattle.tb_tlc.specs.Returned.{content_ops, content_width, content_shape, attrs_ops, attrs_width, attrs_shape, cons_ops, cons_width, cons_shape, parts_ops, parts_width, parts_shape}
-use Rattle.tb_tlc.specs.WellFormed.{StartStands, AgainstStands, OpStands, width_after, OpsStand, width_of, Need, column, an_element, needs_of_content, needs_of_elem, elem_needs, part_needs, NeedStands}
+use Rattle.tb_tlc.specs.WellFormed.{StartStands, AgainstStands, width_after, OpsStand, width_of, Need, an_element, needs_of_content, needs_of_elem, elem_needs, part_needs, NeedStands}
 use Rattle.tb_tlc.proofs.GoodLaws.{PathCan, OperandCan, RightCan, CondCan, KeyCan, ContentCan, AttrCan, NamesCan, PartsCan}
 
 -- Behind n columns these operators stand, and add w columns.

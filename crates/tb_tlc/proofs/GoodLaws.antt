@@ -1,11 +1,11 @@
 -- What a plannable query says of each of its parts, once so many variables are bound.
-use Rattle.std.proofs.Common.{◌≡◌, ℕ, ◌+◌, ◌<◌, IsTrue, List, [], ◌∷◌, ◌++◌, refl, sym, subst, append_assoc, append-nil}
+use Rattle.std.proofs.Common.{ℕ, IsTrue, List, [], ◌∷◌, ◌++◌, subst, append_assoc}
 use Rattle.std.specs.Bool.{⊤}
 use Rattle.std.specs.List.{flat_map, AllByRecursion}
 use Rattle.tb_tree.specs.Names.{is_name}
 use Rattle.tb_tree.specs.Sound.{are_different}
-use Rattle.tb_query.specs.Actions.{Action, binds, takes, makes, actions_of_operand, actions_of_right, actions_of_comparison, actions_of_key, actions_of_content, actions_of_attribute, names_of_attributes, actions_of_cons, actions_of_parts}
-use Rattle.tb_query.specs.Parts.{PlainCons, element, PlainParts, no_parts, inner, content}
+use Rattle.tb_query.specs.Actions.{Action, takes, makes, actions_of_operand, actions_of_right, actions_of_comparison, actions_of_key, actions_of_content, actions_of_attribute, names_of_attributes, actions_of_cons, actions_of_parts}
+use Rattle.tb_query.specs.Parts.{element, PlainParts, no_parts, inner, content}
 use Rattle.tb_query.specs.Plannable.{StartsBefore, AreBound, StepsFrom, HasStep, IsNamed, IsDifferent}
 use Rattle.tb_query.specs.declared.path.Path.{Path}
 use Rattle.tb_query.specs.declared.operand.Operand.{Operand}

@@ -1,16 +1,16 @@
 -- What is planned of a plannable query, clause by clause, is well formed, and so is its plan.
-use Rattle.std.proofs.Common.{◌≡◌, inl, inr, ℕ, ◌+◌, ◌*◌, ◌==◌, ◌<◌, ◌≤◌, Bool, true, false, not, ◌&&◌, ◌||◌, if◌then◌else◌, List, [], ◌∷◌, ◌++◌, length, map, refl, sym, ap, ap₂, ◌∙◌, subst, arith, Option, Some, None, append_assoc, append-nil, length-append, ⊎_elim}
+use Rattle.std.proofs.Common.{◌≡◌, inl, inr, ℕ, ◌+◌, ◌*◌, ◌==◌, ◌<◌, ◌≤◌, Bool, true, false, not, ◌&&◌, ◌||◌, if◌then◌else◌, List, [], ◌∷◌, ◌++◌, length, refl, sym, ap, ◌∙◌, subst, arith, Option, Some, None, append_assoc, append-nil, length-append, ⊎_elim}
 use Rattle.std.specs.Bool.{⊤}
 use Rattle.std.specs.List.{flat_map, filter, find, AllByRecursion}
 use Rattle.std.proofs.lemmas.Bool.{and_parts, eq-eqb, eqb-true, ne_eqb, cases_lt}
 use Rattle.std.proofs.lemmas.Option.{none-some}
 use Rattle.tb_tree.proofs.lists.Alls.{all-append}
 use Rattle.tb_pattern.specs.declared.pattern.Mark.TheVariants as mark
-use Rattle.tb_query.specs.Actions.{Action, binds, takes, actions_of_clause, actions_of_comparison, actions_of_group, actions_of_key, actions_of_back, actions_of_flwor, size_of_actions, actions_of}
+use Rattle.tb_query.specs.Actions.{Action, binds, actions_of_clause, actions_of_comparison, actions_of_group, actions_of_key, actions_of_back, actions_of_flwor}
 use Rattle.tb_query.specs.Comparisons.{has_sum, as_tested}
 use Rattle.tb_query.specs.Parts.{element, PlainBack, nodes_back, cons_back, back_of}
-use Rattle.tb_query.specs.Plannable.{StartsBefore, StepsFrom, IsPlannable}
-use Rattle.tb_query.specs.Tuples.{Lets, let_path, behind_variable, standing, standing_from}
+use Rattle.tb_query.specs.Plannable.{IsPlannable}
+use Rattle.tb_query.specs.Tuples.{let_path, behind_variable, standing, standing_from}
 use Rattle.tb_query.specs.declared.path.Path.{Path}
 use Rattle.tb_query.specs.declared.path.Start.{Start}
 use Rattle.tb_query.specs.declared.path.Start.TheVariants as start
@@ -29,12 +29,12 @@ use Rattle.tb_tlc.specs.Ties.{Tie, ties, lets_after, has_column, starts_at, star
 use Rattle.tb_tlc.specs.Planned.{Columns, column_of, column_start, Scope, Draft, stand_op, path_op, for_mark, with_for, with_clause, with_clauses, first_draft, with_conds, with_group, with_keys, conds_ops, conds_width, keys_ops, keys_width, order_ops}
 use Rattle.tb_tlc.specs.Returned.{back_ops, back_width, back_shape, cons_width, attrs_width, draft_of, planned_flwor}
 use Rattle.tb_tlc.specs.Translated.{translated, most_columns}
-use Rattle.tb_tlc.specs.WellFormed.{StartStands, OpsStand, width_of, Need, NeedStands, needs_of, IsWellFormed}
+use Rattle.tb_tlc.specs.WellFormed.{StartStands, OpsStand, width_of, NeedStands, needs_of, IsWellFormed}
 use Rattle.tb_tlc.proofs.CellLaws.{AreThere, there-more}
 use Rattle.tb_tlc.proofs.TieLaws.{found-all}
 use Rattle.tb_tlc.proofs.SizeLaws.{few-columns}
-use Rattle.tb_tlc.proofs.GoodLaws.{Good, PathCan, CondCan, PartsCan, good-conds, good-keys, good-path, good-parts, good-cons}
-use Rattle.tb_tlc.proofs.FormedLaws.{Forms, forms-both, stand-append, width-append, start-stays, Scoped, scoped-more, forms-path, forms-conds, forms-ordered, forms-cons, forms-parts, cons-needs, parts-needs}
+use Rattle.tb_tlc.proofs.GoodLaws.{Good, PathCan, CondCan, good-conds, good-keys, good-path, good-parts, good-cons}
+use Rattle.tb_tlc.proofs.FormedLaws.{Forms, stand-append, width-append, start-stays, Scoped, scoped-more, forms-path, forms-conds, forms-ordered, forms-cons, forms-parts, cons-needs, parts-needs}
 
 -- A draft whose operators stand, where k variables are bound.
 pub record Drafted (d : Draft) (k : ℕ) : Type 0 where

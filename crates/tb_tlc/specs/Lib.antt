@@ -1,6 +1,5 @@
 -- What plans mean, and which plans queries have.
 pub mod Meaning
-pub mod Matches
 pub mod Ties
 pub mod Planned
 pub mod Returned
