@@ -27,3 +27,4 @@ pub mod SpelledLaws
 pub mod SureLaws
 pub mod MadeLaws
 pub mod PlannableLaws
+pub mod PatternLaws
