@@ -25,6 +25,7 @@ use tb_token::tokens;
 use tb_tree::{Bytes, Items};
 
 mod naive;
+mod plans;
 mod random;
 
 fn settings(order: OrderRule) -> Settings

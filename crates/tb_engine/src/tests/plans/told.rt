@@ -1,11 +1,11 @@
 //! A plan as lines that a reader of a test can follow.
 
-use crate::{ColumnStart, Op};
 use std::alloc::{AllocError, Global};
 use tb_number::{AggKind, CmpOp, SortKey};
 use tb_pattern::Mark;
 use tb_query::Step;
 use tb_span::Axis;
+use tb_tlc::{ColumnStart, Op};
 use tb_tree::{Against, Shape, ShapeAttr, ShapeContent, ShapeElem, ShapePart, Test};
 
 /// Each operator with `; ` behind it. `.3` is the column of number 3.
