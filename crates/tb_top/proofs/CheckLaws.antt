@@ -1,10 +1,13 @@
 -- A script that can be run has few commands; and `check` prints one text of a script.
-use Rattle.std.proofs.Common.{◌≡◌, ℕ, ◌+◌, ◌*◌, ◌≤◌, List, [], ◌∷◌, ◌++◌, length, refl, sym, ap, ap₂, ◌∙◌, subst, arith, append-nil, append_assoc}
+use Rattle.std.proofs.lemmas.Bool.{false≢true}
+use Rattle.std.proofs.Common.{◌≡◌, ℕ, Bool, true, false, ◌+◌, ◌*◌, ◌≤◌, List, [], ◌∷◌, ◌++◌, length, refl, sym, ap, ap₂, ◌∙◌, subst, arith, append-nil, append_assoc}
 use Rattle.std.specs.List.{AllByRecursion}
 use Rattle.tb_script.specs.declared.command.Command.{Command}
 use Rattle.tb_script.specs.declared.command.Command.TheVariants.{Load, Query, Tell, Hear}
 use Rattle.tb_top.specs.Check.{IsRefusal, AreLines, AreRefusals, IsCheck, query_refusal, counts_of, commands_count, queries_of, queries_in}
 use Rattle.tb_top.specs.Pieces.{Grows}
+use Rattle.tb_top.specs.Outputs.{Passes}
+use Rattle.tb_top.specs.Single.{IsBuilt}
 use Rattle.tb_script.specs.Runnable.{HasBodyThatFits}
 use Rattle.tb_flwor.proofs.OneFault.{fault-once}
 
@@ -64,17 +67,30 @@ none-left [] n e none = refl
 none-left (x ∷ xs) n e none = absurd (omega (arith, e, none))
 
 -- Where the text grows by the refusals of the commands that are left, it has grown by all; they fit, and have
--- numbers.
+-- numbers; all are built exactly where these are.
 abbrev pub Left : ℕ → ℕ → List ℕ → List ℕ → List Command → List Command → Type 0
 Left session number initial text all cs =
     ((new : List ℕ) → Grows text new (AreLines (IsRefusal session) (number + 1) cs) → Grows initial new (AreRefusals session all))
     × AllByRecursion HasBodyThatFits cs
     × (number + length cs ≤ length all)
+    × (AllByRecursion IsBuilt cs → AllByRecursion IsBuilt all)
+    × (AllByRecursion IsBuilt all → AllByRecursion IsBuilt cs)
 
 pub left-more : (session number : ℕ) (initial text mid : List ℕ) (all cs rest : List Command) (c : Command) → cs ≡ c ∷ rest → Left session number initial text all cs
-    → Grows text mid (IsRefusal session (number + 1) c) → Left session (number + 1) initial mid all rest
-left-more session number initial text mid all cs rest c next left own = (
+    → IsBuilt c → Grows text mid (IsRefusal session (number + 1) c) → Left session (number + 1) initial mid all rest
+left-more session number initial text mid all cs rest c next left built own = (
   λ new more. left.0 new (lines-more (IsRefusal session) (number + 1) c cs rest text mid new next own more),
   (subst (AllByRecursion HasBodyThatFits) next left.1).1,
   omega (arith, left.2, ap length next),
+  λ behind. left.3 (subst (AllByRecursion IsBuilt) (sym next) (built, behind)),
+  λ whole. (subst (AllByRecursion IsBuilt) next (left.4 whole)).1,
 )
+
+-- what passes, and what doesn't
+pub passed : (b : Bool) (P Q : Type 0) → b ≡ true → Passes b P Q → P × Q
+passed true P Q e passes = passes
+passed false P Q e passes = absurd (false≢true e)
+
+pub failed : (b : Bool) (P Q : Type 0) → b ≡ false → Passes b P Q → P → ⊥
+failed false P Q e fails = fails
+failed true P Q e fails = absurd (false≢true (sym e))

@@ -17,10 +17,10 @@ use Rattle.tb_script.specs.declared.turnstep.Turnstep.{Turnstep}
 use Rattle.tb_core.specs.World.{State, answer, after, run, after_all}
 use Rattle.tb_core.specs.Replay.{NumberedEvent}
 use Rattle.tb_core.specs.declared.event.Event.{Event}
-use Rattle.tb_top.specs.Answer.{answer_of, two_names}
-use Rattle.tb_top.specs.History.{Change, document_in}
+use Rattle.tb_query.specs.Answer as query
+use Rattle.tb_top.specs.History.{Change, documents_in}
 use Rattle.tb_top.specs.Deeds.{Record, loaded, refused, answered, refused_query, told, heard, Deed, event_of, events_of, change_by, changes_behind, history_of, IsAnswer, IsResult}
-use Rattle.tb_top.specs.Single.{step_of, world_of, IsTranscript}
+use Rattle.tb_top.specs.Single.{step_of, world_of, IsBuilt, AreBuilt, IsRun, IsTranscript}
 use Rattle.tb_top.specs.Transcript.{block_of, blocks_of, history_part}
 use Rattle.tb_top.specs.Running.{Progress, Does, begun, at_start, ended}
 use Rattle.tb_tree.proofs.lists.Maps.{map-alike}
@@ -49,10 +49,9 @@ answer-stays : (history more : List Change) (text : List ℕ) (front : ℕ) (ans
 answer-stays history more text front answer is =
     record {
       query = is.query;
-      is = is.is;
-      faultless = is.faultless;
+      reads = is.reads;
       within = omega (arith, is.within, length-append history more);
-      answer_is = is.answer_is ∙ ap (λ cs. answer_of (two_names is.query.first is.query.second) (document_in cs is.query.document)) (sym (take-append-le front history more is.within));
+      answer_is = is.answer_is ∙ ap (λ cs. query.answer (documents_in cs) is.query) (sym (take-append-le front history more is.within));
     }
 
 pub result-stays : (history more : List Change) (c : Command) (r : Record) → IsResult history c r → IsResult (history ++ more) c r
@@ -123,6 +122,7 @@ pub record Done (w : Workload) (steps : List Turnstep) (p : Progress) : Type 0 w
   pub ds : List Deed
   pub order : map step_of ds ≡ steps
   pub commands : AllByRecursion (λ d. command_at (commands_in w) (step_of d) ≡ Some d.command) ds
+  pub built : AllByRecursion (λ d. IsBuilt d.command) ds
   pub numbers : run (world_of w) (map (λ x. x.event) (events_of ds)) ≡ map (λ x. Some x.number) (events_of ds)
   pub results : AllByRecursion (λ d. IsResult (history_of ds) d.command d.result) ds
   pub world_is : p.world ≡ after_all (world_of w) (map (λ x. x.event) (events_of ds))
@@ -136,6 +136,7 @@ done-start w =
       ds = [];
       order = refl;
       commands = tt;
+      built = tt;
       numbers = refl;
       results = tt;
       world_is = refl;
@@ -164,6 +165,7 @@ done-more w steps p q step c done is within does =
       ds = done.ds ++ d ∷ [];
       order = map-append step_of done.ds (d ∷ []) ∙ ap (λ l. l ++ step ∷ []) done.order;
       commands = all-append _ done.ds (d ∷ []) done.commands (is, tt);
+      built = all-append _ done.ds (d ∷ []) done.built (does.built, tt);
       numbers =
           ap (run (world_of w)) named ∙ run-append (world_of w) old (map event more) ∙ ap₂ (λ a b. a ++ b) done.numbers answers
           ∙ sym (map-append (λ (x : NumberedEvent). Some x.number) (events_of done.ds) more) ∙ ap (map (λ x. Some x.number)) (sym events);
@@ -180,12 +182,16 @@ done-more w steps p q step c done is within does =
           ∙ parts-more (length w.sessions.items) done.ds d (subst (λ n. step.session < n) done.sessions_are within);
     }
 
+-- what is done of all commands is a run
+pub done-run : (w : Workload) (p : Progress) (done : Done w (schedule_of (commands_in w)) p) → IsRun w done.ds
+done-run w p done = record { order = done.order; commands = done.commands; numbers = done.numbers; results = done.results }
+
 -- The parts with their ends, and the history, are the transcript.
 pub done-transcript : (w : Workload) (p : Progress) → Done w (schedule_of (commands_in w)) p → IsTranscript w (ended p)
 done-transcript w p done =
     let n = length w.sessions.items in (
       done.ds,
-      record { order = done.order; commands = done.commands; numbers = done.numbers; results = done.results },
+      done-run w p done,
       ap₂ (λ ps cs. flat_map (λ part. part ++ codes "end\n") ps ++ history_part cs) done.parts_are done.changes_are
           ∙ ap (λ l. l ++ history_part (history_of done.ds)) (flat_map-map (λ part. part ++ codes "end\n") (part_of done.ds) (range_with_len 0 n)),
     )

@@ -13,7 +13,9 @@ use Rattle.std.proofs.lemmas.Map.Text.{is_eq-slice_cmp}
 use Rattle.tb_tree.specs.Plain.{Plain}
 use Rattle.tb_tree.specs.View.{plain_of}
 use Rattle.tb_tree.specs.declared.node.Node.{Node}
-use Rattle.tb_top.specs.History.{Change, count_of, or_earlier, document_in}
+use Rattle.tb_esis.proofs.ReadLaws.{bytes_eq-swap}
+use Rattle.tb_tree.specs.Documents.{found}
+use Rattle.tb_top.specs.History.{Change, count_of, documents_in}
 use Rattle.tb_top.specs.Kept.{change_in}
 use Rattle.tb_top.specs.declared.history.Change as change_code
 
@@ -23,15 +25,19 @@ Shared = Arc Node Global
 abbrev tree_of : Shared → Plain
 tree_of store = plain_of (arc_value store)
 
-later : (b : Bool) (tree : Plain) (found earlier : Option Plain) → or_earlier (cond b (Some tree) found) earlier ≡ cond b (Some tree) (or_earlier found earlier)
-later true tree found earlier = refl
-later false tree found earlier = refl
+-- the document of one change more stands before the others
+pub documents_in-more : (cs : List Change) (c : Change) → documents_in (cs ++ c ∷ []) ≡ (c.name, c.tree) ∷ documents_in cs
+documents_in-more [] c = refl
+documents_in-more (x ∷ cs) c = ap (λ ds. ds ++ (x.name, x.tree) ∷ []) (documents_in-more cs c)
 
--- the document of a name behind one change more
-pub document_in-more : (cs : List Change) (c : Change) (name : List ℕ) → document_in (cs ++ c ∷ []) name ≡ cond (bytes_eq c.name name) (Some c.tree) (document_in cs name)
-document_in-more [] c name = refl
-document_in-more (x ∷ cs) c name =
-    ap (λ o. or_earlier o (cond (bytes_eq x.name name) (Some x.tree) None)) (document_in-more cs c name) ∙ later (bytes_eq c.name name) c.tree (document_in cs name) _
+eq-swapped : (a b : List ℕ) → bytes_eq a b ≡ bytes_eq b a
+eq-swapped a b = by (bytes_eq a b) (bytes_eq b a) refl refl
+  where
+    by : (x y : Bool) → bytes_eq a b ≡ x → bytes_eq b a ≡ y → x ≡ y
+    by true true e f = refl
+    by false false e f = refl
+    by true false e f = sym e ∙ bytes_eq-swap b a f
+    by false true e f = sym (bytes_eq-swap a b e) ∙ f
 
 add_one : (mine own : Bool) (n : ℕ) → cond mine (n + cond own 1 0 + 1) (n + cond own 1 0) ≡ cond mine (n + 1) n + cond own 1 0
 add_one true true n = omega arith
@@ -70,14 +76,14 @@ counts-more counts cs c kept within session = by (cases_eq c.session session)
         ∙ sym (count_of-more session cs c ∙ ap (λ b. count_of session cs + cond b 1 0) (false_from_ne_true (c.session == session) (λ t. other (eqb-true c.session session t))) ∙ omega arith)
 
 -- the documents behind one change more
-pub latest-more : (m n : BTreeMap (List ℕ) Shared) (cs : List Change) (c : Change) (w : Shared) (key : List ℕ) → ((name : List ℕ) → option_map tree_of (get (slice_cmp nat_cmp) m name) ≡ document_in cs name)
+pub latest-more : (m n : BTreeMap (List ℕ) Shared) (cs : List Change) (c : Change) (w : Shared) (key : List ℕ) → ((name : List ℕ) → option_map tree_of (get (slice_cmp nat_cmp) m name) ≡ found name (documents_in cs))
     → ((name : List ℕ) → get (slice_cmp nat_cmp) n name ≡ cond (is_at (slice_cmp nat_cmp key) name) (Some w) (get (slice_cmp nat_cmp) m name))
-    → key ≡ c.name → tree_of w ≡ c.tree → (name : List ℕ) → option_map tree_of (get (slice_cmp nat_cmp) n name) ≡ document_in (cs ++ c ∷ []) name
+    → key ≡ c.name → tree_of w ≡ c.tree → (name : List ℕ) → option_map tree_of (get (slice_cmp nat_cmp) n name) ≡ found name (documents_in (cs ++ c ∷ []))
 latest-more m n cs c w key kept writes same tree name =
-    ap (option_map tree_of) (writes name) ∙ by (is_at (slice_cmp nat_cmp key) name) ∙ ap (λ b. cond b (Some c.tree) (document_in cs name)) (is_eq-slice_cmp key name ∙ ap (λ k. bytes_eq k name) same)
-    ∙ sym (document_in-more cs c name)
+    ap (option_map tree_of) (writes name) ∙ by (is_at (slice_cmp nat_cmp key) name) ∙ ap (λ b. cond b (Some c.tree) (found name (documents_in cs))) (is_eq-slice_cmp key name ∙ ap (λ k. bytes_eq k name) same ∙ eq-swapped c.name name)
+    ∙ sym (ap (found name) (documents_in-more cs c))
   where
-    by : (b : Bool) → option_map tree_of (cond b (Some w) (get (slice_cmp nat_cmp) m name)) ≡ cond b (Some c.tree) (document_in cs name)
+    by : (b : Bool) → option_map tree_of (cond b (Some w) (get (slice_cmp nat_cmp) m name)) ≡ cond b (Some c.tree) (found name (documents_in cs))
     by true = ap Some tree
     by false = kept name
 

@@ -18,7 +18,6 @@ use Rattle.tb_core.specs.declared.event.Event.TheVariants as event
 use Rattle.tb_core.specs.World.{State, with_seen, answer, after_all, told_at}
 use Rattle.tb_top.specs.History.{Change}
 use Rattle.tb_top.specs.Deeds.{Record, loaded, refused, answered, refused_query, told, heard, event_of, change_by, IsResult}
-use Rattle.tb_top.specs.Single.{IsBuilt, AreBuilt}
 use Rattle.tb_top.specs.Running.{Progress, Does, Stands, IsReadyFor, begun, at_start}
 use Rattle.tb_tree.proofs.lists.Options.{value_of-some}
 use Rattle.tb_core.proofs.ChangeLaws.{history-with_seen}
@@ -130,7 +129,6 @@ pub record Goes (w : Workload) (steps : List Turnstep) (p : Progress) : Type 0 w
   pub agree : Agree marks p.world
   pub below : AllByRecursion (HasMarkBelow (length p.world.told)) (commands_of_steps (commands_in w) steps)
   pub fit : AllByRecursion HasBodyThatFits (commands_of_steps (commands_in w) steps)
-  pub built : AllByRecursion IsBuilt (commands_of_steps (commands_in w) steps)
   pub sessions : p.sessions ≡ length w.sessions.items
   pub seen : length p.world.seen ≡ p.sessions
   pub parts : length p.parts ≡ p.sessions
@@ -165,16 +163,16 @@ row-read w step script is at =
     get_or-map (λ s. s.commands.items) w.sessions.items step.session script [] (omega (arith, within, length-map w.sessions.items (λ s. s.commands.items)))
     ∙ ap (λ s. s.commands.items) (sym at)
 
-ready : (told : List ℕ) (p : Progress) (c : Command) → MayGo told c → Agree told p.world → HasMarkBelow (length p.world.told) c → HasBodyThatFits c → IsBuilt c → length p.world.history + loads_of (c ∷ []) ≤ p.world.room
+ready : (told : List ℕ) (p : Progress) (c : Command) → MayGo told c → Agree told p.world → HasMarkBelow (length p.world.told) c → HasBodyThatFits c → length p.world.history + loads_of (c ∷ []) ≤ p.world.room
     → IsReadyFor p.world c
-ready marks p (Load name lines) may agree below fits built room = (fits, omega arith)
-ready marks p (Query text) may agree below fits built room = built
-ready marks p (Tell mark name) may agree below fits built room = (below, none (told_at p.world mark) (agree mark ∙ may))
+ready marks p (Load name lines) may agree below fits room = (fits, omega arith)
+ready marks p (Query text) may agree below fits room = tt
+ready marks p (Tell mark name) may agree below fits room = (below, none (told_at p.world mark) (agree mark ∙ may))
   where
     none : (o : Option ℕ) → is_some o ≡ false → o ≡ None
     none None e = refl
     none (Some n) e = absurd (false≢true (sym e))
-ready marks p (Hear mark name) may agree below fits built room = (below, some (told_at p.world mark) (agree mark ∙ may))
+ready marks p (Hear mark name) may agree below fits room = (below, some (told_at p.world mark) (agree mark ∙ may))
   where
     some : (o : Option ℕ) → is_some o ≡ true → IsSome o
     some None e = absurd (false≢true e)
@@ -189,7 +187,6 @@ goes-ready w steps p step c g is =
     let goes = subst (GoOn g.marks) next g.goes in
     let below = subst (AllByRecursion (HasMarkBelow (length p.world.told))) next g.below in
     let fit = subst (AllByRecursion HasBodyThatFits) next g.fit in
-    let built = subst (AllByRecursion IsBuilt) next g.built in
     let room : length p.world.history + loads_of (c ∷ commands_of_steps css steps) ≤ p.world.room = subst (λ cs. length p.world.history + loads_of cs ≤ p.world.room) next g.left_room in (
       record {
         session = omega (arith, within, g.sessions, length-map w.sessions.items (λ s. s.commands.items));
@@ -198,7 +195,7 @@ goes-ready w steps p step c g is =
         changes = g.changes;
         room = g.small;
       },
-      ready g.marks p c goes.0 g.agree below.0 fit.0 built.0 (alone c (commands_of_steps css steps) (length p.world.history) p.world.room room),
+      ready g.marks p c goes.0 g.agree below.0 fit.0 (alone c (commands_of_steps css steps) (length p.world.history) p.world.room room),
     )
   where
     alone : (d : Command) (cs : List Command) (n room : ℕ) → n + loads_of (d ∷ cs) ≤ room → n + loads_of (d ∷ []) ≤ room
@@ -214,7 +211,6 @@ goes-more w steps p q step c g is does =
     let goes = subst (GoOn g.marks) next g.goes in
     let below = subst (AllByRecursion (HasMarkBelow (length p.world.told))) next g.below in
     let fit = subst (AllByRecursion HasBodyThatFits) next g.fit in
-    let built = subst (AllByRecursion IsBuilt) next g.built in
     let room : length p.world.history + loads_of (c ∷ commands_of_steps css steps) ≤ p.world.room = subst (λ cs. length p.world.history + loads_of cs ≤ p.world.room) next g.left_room in
     let made : List Change = change_by p.changes step.session c does.result in
     let world = ap (λ (x : Progress). x.world) does.left in
@@ -229,7 +225,6 @@ goes-more w steps p q step c g is does =
       agree = λ mark. ap (λ (v : State). is_some (told_at v mark)) world ∙ l.agree g.agree mark;
       below = subst (λ n. AllByRecursion (HasMarkBelow n) (commands_of_steps css steps)) (sym (ap (λ (v : State). length v.told) world ∙ l.tolds)) below.1;
       fit = fit.1;
-      built = built.1;
       sessions = ap (λ (x : Progress). x.sessions) does.left ∙ g.sessions;
       seen = ap (λ (v : State). length v.seen) world ∙ l.seen ∙ g.seen ∙ sym (ap (λ (x : Progress). x.sessions) does.left);
       parts = ap (λ (x : Progress). length x.parts) does.left ∙ length-set p.parts step.session _ ∙ g.parts ∙ sym (ap (λ (x : Progress). x.sessions) does.left);
@@ -246,8 +241,8 @@ none-told zero mark = refl
 none-told (suc n) zero = refl
 none-told (suc n) (suc mark) = none-told n mark
 
-pub goes-start : (w : Workload) → IsRunnable w → AreBuilt w → Goes w (schedule_of (commands_in w)) (at_start w)
-goes-start w runs built =
+pub goes-start : (w : Workload) → IsRunnable w → Goes w (schedule_of (commands_in w)) (at_start w)
+goes-start w runs =
     let css = commands_in w in
     let n = length w.sessions.items in
     let steps = schedule_of css in
@@ -258,7 +253,6 @@ goes-start w runs built =
       agree = λ mark. none-told w.marks mark;
       below = subst (λ k. AllByRecursion (HasMarkBelow k) (commands_of_steps css steps)) (sym (length-replicate w.marks None)) (schedule-below css w.marks runs);
       fit = steps-keep HasBodyThatFits css steps runs.bodies_fit;
-      built = steps-keep IsBuilt css steps built;
       sessions = refl;
       seen = length-replicate n 0;
       parts = length-map-range_with_len begun 0 n;

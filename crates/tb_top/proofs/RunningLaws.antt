@@ -10,6 +10,7 @@ use Rattle.tb_core.specs.World.{State, answer, after, run, after_all}
 use Rattle.tb_core.specs.declared.event.Event.TheVariants as event
 use Rattle.tb_top.specs.History.{Change, count_of}
 use Rattle.tb_top.specs.Deeds.{Record, loaded, event_of, change_by, IsResult}
+use Rattle.tb_top.specs.Single.{IsBuilt}
 use Rattle.tb_top.specs.Transcript.{block_of}
 use Rattle.tb_top.specs.Running.{Progress, progress_of, behind, Stands, Does}
 use Rattle.tb_top.specs.declared.running.Running as running_code
@@ -40,15 +41,15 @@ same p world changes sessions parts a b c d =
     ∙ ap (λ (x : List (List ℕ)). let q : Progress = record { world = world; changes = changes; sessions = sessions; parts = x } in q) d
 
 -- a command with an event that makes no change
-pub does-look : (step : Turnstep) (c : Command) (r : Record) (old new : Progress) → change_by old.changes step.session c r ≡ []
+pub does-look : (step : Turnstep) (c : Command) (r : Record) (old new : Progress) → IsBuilt c → change_by old.changes step.session c r ≡ []
     → run old.world (map (λ x. x.event) (event_of step.session c r)) ≡ map (λ x. Some x.number) (event_of step.session c r)
     → IsResult old.changes c r → new.world ≡ after_all old.world (map (λ x. x.event) (event_of step.session c r))
     → new.changes ≡ old.changes → new.sessions ≡ old.sessions
     → new.parts ≡ set old.parts step.session (get_or old.parts step.session [] ++ block_of (step.command + 1) c r) → Does step c old new
-does-look step c r old new none numbers may world changes sessions parts =
+does-look step c r old new built none numbers may world changes sessions parts =
     let unchanged : new.changes ≡ old.changes ++ change_by old.changes step.session c r = changes ∙ sym (ap (λ l. old.changes ++ l) none ∙ append-nil old.changes) in
     let left : new ≡ behind old step c r = same new _ _ _ _ world unchanged sessions parts in
-    record { result = r; numbers = numbers; may = may; left = left }
+    record { built = built; result = r; numbers = numbers; may = may; left = left }
 
 -- a load that is accepted
 pub does-load : (step : Turnstep) (name lines : List ℕ) (k : ℕ) (tree : Plain) (old new : Progress) → answer old.world (event.Change step.session) ≡ Some k
@@ -59,4 +60,4 @@ pub does-load : (step : Turnstep) (name lines : List ℕ) (k : ℕ) (tree : Plai
     → Does step (command.Load name lines) old new
 does-load step name lines k tree old new number read world changes sessions parts =
     let left : new ≡ behind old step (command.Load name lines) (loaded k tree) = same new _ _ _ _ world changes sessions parts in
-    record { result = loaded k tree; numbers = ap (λ o. o ∷ []) number; may = read; left = left }
+    record { built = tt; result = loaded k tree; numbers = ap (λ o. o ∷ []) number; may = read; left = left }

@@ -1,14 +1,19 @@
 -- Worked rows of transcripts, computed.
 use Rattle.std.proofs.Common.{◌≡◌, ℕ, List, [], ◌∷◌, ◌++◌, refl, codes}
-use Rattle.std.specs.Prelude.{Some, None}
+use Rattle.std.specs.Prelude.{Some, None, Option, false}
 use Rattle.std.specs.Fmt.{digits}
 use Rattle.tb_tree.specs.Plain.{Plain, elem, no_kids, kid}
 use Rattle.tb_esis.specs.declared.fault.EsisFault.TheVariants as esis
 use Rattle.tb_flwor.specs.declared.fault.QueryFault.TheVariants as query
 use Rattle.tb_script.specs.declared.command.Command.{Command}
 use Rattle.tb_script.specs.declared.command.Command.TheVariants as command
-use Rattle.tb_top.specs.Answer.{answer_of, two_names}
-use Rattle.tb_top.specs.History.{document_at}
+use Rattle.tb_tree.specs.Documents.{found}
+use Rattle.tb_tree.specs.declared.node_test.Test.TheVariants as test
+use Rattle.tb_span.specs.declared.item.Axis.TheVariants.{Descendant}
+use Rattle.tb_pattern.specs.Plain.{matching, PlainEdges, no_edges, edge}
+use Rattle.tb_pattern.specs.declared.pattern.Mark.TheVariants as mark
+use Rattle.tb_query.specs.Answer.{match_trees, counted}
+use Rattle.tb_top.specs.History.{documents_at}
 use Rattle.tb_top.specs.Deeds.{Record, loaded, refused, answered, refused_query, told, heard, Deed, history_of}
 use Rattle.tb_top.specs.Transcript.{transcript_of}
 use Rattle.tb_flwor.specs.Faults.{IsFaultOf}
@@ -24,10 +29,17 @@ alone = elem (codes "x") no_kids
 abbrev deed : ℕ → ℕ → Command → Record → Deed
 deed session place c r = record { session = session; place = place; command = c; result = r }
 
+-- `(//- first (//- second))`
+abbrev below : List ℕ → PlainEdges → PlainEdges
+below name edges = edge Descendant mark.One (matching (test.Name name) [] false edges) no_edges
+
+abbrev asked : List ℕ → Plain → Record
+asked name root = answered 1 (Some (counted (match_trees (below name (below name no_edges)) (Some root))))
+
 -- one session loads nested `a` as `n`, and asks for `a` below `a` in it
 abbrev nested_deeds : List Deed
 nested_deeds =
-    deed 0 0 (command.Load (codes "n") []) (loaded 1 nested) ∷ deed 0 1 (command.Query []) (answered 1 (answer_of (two_names (codes "a") (codes "a")) (Some nested))) ∷ []
+    deed 0 0 (command.Load (codes "n") []) (loaded 1 nested) ∷ deed 0 1 (command.Query []) (asked (codes "a") nested) ∷ []
 
 pub nested-transcript : transcript_of 1 nested_deeds
     ≡ codes "session 1\n1 load n at 1\n2 query front 1 trees 3\n(witness\n(a\n(a\n)a\n)a\n)witness\n(witness\n(a\n(a\n)a\n)a\n)witness\n(witness\n(a\n(a\n)a\n)a\n)witness\n.\nend\nhistory 1\n1 session 1 change 1 load n\nok\n"
@@ -38,7 +50,7 @@ nested-transcript = refl
 abbrev marks_deeds : List Deed
 marks_deeds =
     deed 0 0 (command.Load (codes "a") []) (loaded 1 alone) ∷ deed 0 1 (command.Tell 0 (codes "m")) (told 1) ∷ deed 1 0 (command.Hear 0 (codes "m")) (heard 1)
-    ∷ deed 1 1 (command.Query []) (answered 1 (answer_of (two_names (codes "x") (codes "x")) (Some alone))) ∷ []
+    ∷ deed 1 1 (command.Query []) (asked (codes "x") alone) ∷ []
 
 pub marks-transcript : transcript_of 2 marks_deeds
     ≡ codes "session 1\n1 load a at 1\n2 tell m front 1\nend\nsession 2\n1 hear m front 1\n2 query front 1 trees 0\n.\nend\nhistory 1\n1 session 1 change 1 load a\nok\n"
@@ -74,7 +86,10 @@ abbrev twice_deeds : List Deed
 twice_deeds =
     deed 0 0 (command.Load (codes "x") []) (loaded 1 nested) ∷ deed 1 0 (command.Load (codes "x") []) (loaded 2 alone) ∷ deed 0 1 (command.Load (codes "y") []) (loaded 3 nested) ∷ []
 
-pub twice-documents : document_at (history_of twice_deeds) 0 (codes "x") ∷ document_at (history_of twice_deeds) 1 (codes "x") ∷ document_at (history_of twice_deeds) 2 (codes "x") ∷ document_at (history_of twice_deeds) 3 (codes "x") ∷ document_at (history_of twice_deeds) 2 (codes "y") ∷ []
+abbrev twice : ℕ → List ℕ → Option Plain
+twice front name = found name (documents_at (history_of twice_deeds) front)
+
+pub twice-documents : twice 0 (codes "x") ∷ twice 1 (codes "x") ∷ twice 2 (codes "x") ∷ twice 3 (codes "x") ∷ twice 2 (codes "y") ∷ []
     ≡ None ∷ Some nested ∷ Some alone ∷ Some alone ∷ None ∷ []
 twice-documents = refl
 
@@ -111,3 +126,8 @@ check-refused_queries s t u bad none long =
       ),
       refl,
     )
+
+-- an answer whose sum is past the range is one line
+pub past-transcript : transcript_of 1 (deed 0 0 (command.Query []) (answered 0 None) ∷ []) ≡ codes "session 1\n1 query front 0 refused past-128-bits\nend\nhistory 0\nok\n"
+unfolding digits
+past-transcript = refl

@@ -14,14 +14,13 @@ use Rattle.tb_core.specs.declared.event.Event.TheVariants as event_kind
 use Rattle.tb_core.specs.World.{State, with_seen, answer, after, run, after_all}
 use Rattle.tb_core.specs.Replay.{NumberedEvent}
 use Rattle.tb_core.specs.declared.event.Event.{Event}
-use Rattle.tb_top.specs.Answer.{answer_of, two_names}
-use Rattle.tb_top.specs.QueryText as text
-use Rattle.tb_top.specs.History.{Change, document_in}
+use Rattle.tb_query.specs.Answer as query
+use Rattle.tb_top.specs.History.{Change, documents_in}
 use Rattle.tb_top.specs.Deeds.{Record, loaded, refused, answered, refused_query, told, heard, Deed, event_of, events_of, change_by, changes_behind, history_of, IsAnswer, IsResult}
 use Rattle.tb_top.specs.Single.{step_of, world_of, IsRun, IsTranscript}
 use Rattle.tb_top.specs.Transcript.{transcript_of}
 use Rattle.tb_top.proofs.DoneLaws.{run-append, changes_behind-append}
-use Rattle.tb_top.proofs.QueryLaws.{query-unique}
+use Rattle.tb_top.proofs.AskedLaws.{asked-once, asked-clean}
 use Rattle.tb_flwor.proofs.OneFault.{refused-once, never-both}
 use Rattle.tb_tree.proofs.lists.Parts.{parts-same, first-same}
 use Rattle.std.proofs.lemmas.Option.{same_Some}
@@ -95,11 +94,11 @@ number-same w e k l a b = same_Some k l (sym (first-same (answer w e) (Some k) [
 answer-same : (cs one two : List Change) (t : List ℕ) (f g : ℕ) (a b : _) → take (length cs) one ≡ cs → take (length cs) two ≡ cs → f ≡ length cs → g ≡ length cs
     → IsAnswer one t f a → IsAnswer two t g b → answered f a ≡ answered g b
 answer-same cs one two t f g a b begins_one begins_two at_one at_two is also =
-    let same = query-unique t is.query also.query is.is also.is in
     let docs_one : take f one ≡ cs = ap (λ n. take n one) at_one ∙ begins_one in
     let docs_two : take g two ≡ cs = ap (λ n. take n two) at_two ∙ begins_two in
-    let of = λ (q : text.TwoNamesQuery) (ds : List Change). answer_of (two_names q.first q.second) (document_in ds q.document) in
-    ap₂ answered (at_one ∙ sym at_two) (is.answer_is ∙ ap₂ of same (docs_one ∙ sym docs_two) ∙ sym also.answer_is)
+    let docs = ap documents_in (docs_one ∙ sym docs_two) in
+    ap₂ answered (at_one ∙ sym at_two)
+    (is.answer_is ∙ ap (λ ds. query.answer ds is.query) docs ∙ asked-once t is.query also.query is.reads also.reads (documents_in (take g two)) ∙ sym also.answer_is)
 
 -- What a command comes to is one: it has one number there, one reading, one answer and one fault.
 result-same : (w : State) (session : ℕ) (cs one two : List Change) (c : Command) (r s : Record) → length w.history ≡ length cs → take (length cs) one ≡ cs → take (length cs) two ≡ cs
@@ -115,8 +114,8 @@ result-same w session cs one two (Query t) (answered f a) (answered g b) long b1
     let at_g = same_Some (length w.history) g (first-same (Some (length w.history)) (Some g) [] [] a2) in
     answer-same cs one two t f g a b b1 b2 (sym at_f ∙ long) (sym at_g ∙ long) m1 m2
 result-same w session cs one two (Query t) (refused_query f) (refused_query g) long b1 b2 a1 a2 m1 m2 = ap refused_query (refused-once t f g m1 m2)
-result-same w session cs one two (Query t) (answered f a) (refused_query g) long b1 b2 a1 a2 m1 m2 = absurd (never-both t g m1.faultless m2)
-result-same w session cs one two (Query t) (refused_query f) (answered g b) long b1 b2 a1 a2 m1 m2 = absurd (never-both t f m2.faultless m1)
+result-same w session cs one two (Query t) (answered f a) (refused_query g) long b1 b2 a1 a2 m1 m2 = absurd (never-both t g (asked-clean t m1.query m1.reads) m2)
+result-same w session cs one two (Query t) (refused_query f) (answered g b) long b1 b2 a1 a2 m1 m2 = absurd (never-both t f (asked-clean t m2.query m2.reads) m1)
 result-same w session cs one two (Tell mark name) (told k) (told l) long b1 b2 a1 a2 m1 m2 = ap told (number-same w (event_kind.Tell session mark) k l a1 a2)
 result-same w session cs one two (Hear mark name) (heard k) (heard l) long b1 b2 a1 a2 m1 m2 = ap heard (number-same w (event_kind.Hear session mark) k l a1 a2)
 result-same w session cs one two (Load name lines) (answered g b) s long b1 b2 a1 a2 m1 m2 = absurd m1

@@ -27,8 +27,7 @@ ReadBuilt t source P =
     (bytes : List ℕ) × (w : Workload) × (text : List ℕ)
     × (ReadAll source bytes × IsReadAs bytes w × AreBuilt w × IsOutput t w text × P text)
 
--- the input is read as a script that has a query which isn't built: its text is neither that of the
--- one form nor refused
+-- the input is read as a script that has a query of clauses
 abbrev pub ReadUnbuilt : SourceMoved → Type 0
 ReadUnbuilt source =
     (bytes : List ℕ) × (w : Workload) × (ReadAll source bytes × IsReadAs bytes w × (AreBuilt w → ⊥))

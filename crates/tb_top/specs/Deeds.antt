@@ -1,5 +1,5 @@
 -- What the commands of a script come to.
-use Rattle.std.specs.Prelude.{◌≡◌, ℕ, ◌+◌, ◌≤◌, List, [], ◌∷◌, ◌++◌, Some, None, length}
+use Rattle.std.specs.Prelude.{◌≡◌, ℕ, ◌+◌, ◌≤◌, List, [], ◌∷◌, ◌++◌, Option, Some, Ok, length}
 use Rattle.std.specs.List.{flat_map}
 use Rattle.tb_tree.specs.Plain.{Plain}
 use Rattle.tb_esis.specs.Reading.{IsReadAs}
@@ -11,10 +11,11 @@ use Rattle.tb_flwor.specs.declared.fault.QueryFault.{QueryFault}
 use Rattle.tb_core.specs.Replay.{NumberedEvent}
 use Rattle.tb_core.specs.declared.event.Event.{Event}
 use Rattle.tb_core.specs.declared.event.Event.TheVariants as event
-use Rattle.tb_top.specs.Answer.{Answer, answer_of, two_names}
-use Rattle.tb_top.specs.QueryText.{TwoNamesQuery, IsQuery}
-use Rattle.tb_flwor.specs.Faults.{IsFaultOf}
-use Rattle.tb_top.specs.History.{Change, count_of, document_at}
+use Rattle.tb_flwor.specs.Calls.{Reads}
+use Rattle.tb_flwor.specs.Faults.{IsRefused}
+use Rattle.tb_query.specs.Answer.{answer}
+use Rattle.tb_query.specs.declared.query.Query.{Query}
+use Rattle.tb_top.specs.History.{Change, count_of, documents_at}
 
 -- what a command came to
 pub data Record : Type 0 where
@@ -22,8 +23,9 @@ pub data Record : Type 0 where
   loaded : ℕ → Plain → Record
   -- a load: its body has the fault
   refused : EsisFault → Record
-  -- a query: answered over the first changes, so many
-  answered : ℕ → Answer → Record
+  -- a query: answered over the first changes, so many, by the number of its trees and their lines, or by none
+  -- where a sum is past the range of signed numbers of 128 bits
+  answered : ℕ → Option (ℕ × List ℕ) → Record
   -- a query: its text has the fault
   refused_query : QueryFault → Record
   -- a `tell`: what its session had seen
@@ -67,13 +69,12 @@ changes_behind cs (d ∷ ds) = changes_behind (cs ++ change_by cs d.session d.co
 abbrev pub history_of : List Deed → List Change
 history_of ds = changes_behind [] ds
 
--- The answer of a query, whose text has no fault, over the documents of a front.
-pub record IsAnswer (history : List Change) (text : List ℕ) (front : ℕ) (answer : Answer) : Type 0 where
-  pub query : TwoNamesQuery
-  pub is : IsQuery text query
-  pub faultless : IsFaultOf text None
+-- What is answered of a text that has no fault, over the documents of a front.
+pub record IsAnswer (history : List Change) (text : List ℕ) (front : ℕ) (answered : Option (ℕ × List ℕ)) : Type 0 where
+  pub query : Query
+  pub reads : Reads text (Ok query)
   pub within : front ≤ length history
-  pub answer_is : answer ≡ answer_of (two_names query.first query.second) (document_at history front query.document)
+  pub answer_is : answered ≡ answer (documents_at history front) query
 
 -- What a command may come to, where this is the history: a load is accepted with the tree that its
 -- body is read as, or refused with the first fault of it; a query is answered, or refused with the
@@ -82,7 +83,7 @@ abbrev pub IsResult : List Change → Command → Record → Type 0
 IsResult history (command.Load name lines) (loaded k tree) = IsReadAs lines tree
 IsResult history (command.Load name lines) (refused fault) = fault_of lines ≡ Some fault
 IsResult history (command.Query text) (answered front answer) = IsAnswer history text front answer
-IsResult history (command.Query text) (refused_query fault) = IsFaultOf text (Some fault)
+IsResult history (command.Query text) (refused_query fault) = IsRefused text fault
 IsResult history (command.Tell mark name) (told k) = Unit {0}
 IsResult history (command.Hear mark name) (heard k) = Unit {0}
 IsResult history _ _ = ⊥

@@ -1,5 +1,5 @@
 -- What the commands that are done leave: words of private clauses.
-use Rattle.std.specs.Prelude.{◌≡◌, ℕ, ◌+◌, ◌<◌, ◌≤◌, List, [], ◌++◌, map, length, get_or, set, Some, IsSome, None, codes, decimal}
+use Rattle.std.specs.Prelude.{◌≡◌, ℕ, ◌+◌, ◌<◌, ◌≤◌, Bool, true, false, List, [], ◌++◌, map, length, get_or, set, Some, IsSome, None, codes, decimal, ⊤}
 use Rattle.std.specs.List.{flat_map, range_with_len}
 use Rattle.tb_script.specs.declared.command.Command.{Command}
 use Rattle.tb_script.specs.declared.command.Command.TheVariants as command
@@ -37,12 +37,18 @@ behind p step command result = record {
   parts = set p.parts step.session (get_or p.parts step.session [] ++ block_of (step.command + 1) command result);
 }
 
--- a command is done: the world answers its number, and it comes to what it may
+-- a command that is built is done: the world answers its number, and it comes to what it may
 pub record Does (step : Turnstep) (command : Command) (old new : Progress) : Type 0 where
+  pub built : IsBuilt command
   pub result : Record
   pub numbers : run old.world (map (λ x. x.event) (event_of step.session command result)) ≡ map (λ x. Some x.number) (event_of step.session command result)
   pub may : IsResult old.changes command result
   pub left : new ≡ behind old step command result
+
+-- a command is done, or it isn't built
+abbrev pub Ends : Bool → Turnstep → Command → Progress → Progress → Type 0
+Ends true step command old new = Does step command old new
+Ends false step command old new = IsBuilt command → ⊥
 
 -- the session is there, the world has its sessions and its changes, and room for 65,536 at most
 pub record Stands (p : Progress) (step : Turnstep) : Type 0 where
@@ -52,10 +58,10 @@ pub record Stands (p : Progress) (step : Turnstep) : Type 0 where
   pub changes : length p.world.history ≡ length p.changes
   pub room : p.world.room ≤ 65536
 
--- a load fits and has room, a query is built, a mark is told once and before it is heard
+-- a load fits and has room, a mark is told once and before it is heard
 abbrev pub IsReadyFor : State → Command → Type 0
 IsReadyFor w (command.Load name lines) = (length lines ≤ 67108864) × (length w.history < w.room)
-IsReadyFor w (command.Query text) = IsBuilt (command.Query text)
+IsReadyFor w (command.Query text) = ⊤
 IsReadyFor w (command.Tell mark name) = (mark < length w.told) × (told_at w mark ≡ None)
 IsReadyFor w (command.Hear mark name) = (mark < length w.told) × IsSome (told_at w mark)
 

@@ -1,5 +1,5 @@
 -- What `single` does with a script.
-use Rattle.std.specs.Prelude.{◌≡◌, ◌⊎◌, ℕ, List, map, length, Some}
+use Rattle.std.specs.Prelude.{◌≡◌, ℕ, List, map, length, Some, Ok}
 use Rattle.std.specs.List.{AllByRecursion}
 use Rattle.tb_script.specs.Runnable.{commands_in, loads_in}
 use Rattle.tb_script.specs.Schedule.{schedule_of, command_at}
@@ -8,9 +8,9 @@ use Rattle.tb_script.specs.declared.command.Command.TheVariants as command
 use Rattle.tb_script.specs.declared.command.Workload.{Workload}
 use Rattle.tb_script.specs.declared.turnstep.Turnstep.{Turnstep}
 use Rattle.tb_core.specs.World.{State, start, run}
-use Rattle.tb_flwor.specs.declared.fault.QueryFault.{QueryFault}
-use Rattle.tb_top.specs.QueryText.{HasQuery}
-use Rattle.tb_flwor.specs.Faults.{IsRefused}
+use Rattle.tb_flwor.specs.Calls.{Reads}
+use Rattle.tb_query.specs.declared.query.Flwor as flwor
+use Rattle.tb_query.specs.declared.query.Query.TheVariants.{Flwor}
 use Rattle.tb_top.specs.Deeds.{Deed, IsResult, events_of, history_of}
 use Rattle.tb_top.specs.Transcript.{transcript_of}
 
@@ -30,9 +30,9 @@ pub record IsRun (w : Workload) (ds : List Deed) : Type 0 where
   pub numbers : run (world_of w) (map (λ x. x.event) (events_of ds)) ≡ map (λ x. Some x.number) (events_of ds)
   pub results : AllByRecursion (λ d. IsResult (history_of ds) d.command d.result) ds
 
--- a query, if the command is one, has the text that is built, or one that is refused
+-- a query, if the command is one, isn't a query of clauses
 abbrev pub IsBuilt : Command → Type 0
-IsBuilt (command.Query text) = HasQuery text ⊎ ((fault : QueryFault) × IsRefused text fault)
+IsBuilt (command.Query text) = (q : flwor.Flwor) → Reads text (Ok (Flwor q)) → ⊥
 IsBuilt _ = Unit {0}
 
 abbrev pub AreBuilt : Workload → Type 0

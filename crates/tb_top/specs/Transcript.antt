@@ -1,11 +1,10 @@
 -- The text of a transcript.
-use Rattle.std.specs.Prelude.{ℕ, ◌+◌, ◌==◌, List, [], ◌∷◌, ◌++◌, codes, decimal, length}
+use Rattle.std.specs.Prelude.{ℕ, ◌+◌, ◌==◌, List, [], ◌∷◌, ◌++◌, Option, Some, None, codes, decimal, length}
 use Rattle.std.specs.List.{flat_map, filter, range_with_len}
 use Rattle.tb_esis.specs.declared.fault.EsisFault.{EsisFault}
 use Rattle.tb_flwor.specs.declared.fault.QueryFault.{QueryFault}
 use Rattle.tb_script.specs.declared.command.Command.{Command}
 use Rattle.tb_script.specs.declared.command.Command.TheVariants.{Load, Query, Tell, Hear}
-use Rattle.tb_top.specs.Answer.{Answer}
 use Rattle.tb_top.specs.FaultText.{esis_fault_text, query_fault_text}
 use Rattle.tb_top.specs.History.{Change}
 use Rattle.tb_top.specs.Deeds.{Record, loaded, refused, answered, refused_query, told, heard, Deed, history_of}
@@ -40,9 +39,16 @@ abbrev pub heard_line : ℕ → List ℕ → ℕ → List ℕ
 heard_line number name front =
     decimal number ++ codes " hear " ++ name ++ codes " front " ++ decimal front ++ codes "\n"
 
--- the block of a query: its line, the answer's lines, and a line `.`
-abbrev pub query_block : ℕ → ℕ → Answer → List ℕ
-query_block number front answer = answered_line number front answer.trees ++ answer.lines ++ codes ".\n"
+-- `I query front K refused past-128-bits`: over the first K changes a sum of command I is past the range
+abbrev pub past_line : ℕ → ℕ → List ℕ
+past_line number front =
+    decimal number ++ codes " query front " ++ decimal front ++ codes " refused past-128-bits\n"
+
+-- the block of a query: its line, the lines of its trees, and a line `.`; or that one line
+abbrev pub query_block : ℕ → ℕ → Option (ℕ × List ℕ) → List ℕ
+query_block number front (Some answer) =
+    answered_line number front answer.0 ++ answer.1 ++ codes ".\n"
+query_block number front None = past_line number front
 
 -- the block of a command, numbered from 1 in its session, by what it came to
 abbrev pub block_of : ℕ → Command → Record → List ℕ

@@ -1,54 +1,84 @@
-//! The answer of a query over the document that it names.
+//! The answer of a query over the documents of a history.
 
-ghost use Rattle.std.specs.Prelude.{◌≡◌, ◌++◌, IsTrue, IfOk, OnOk, option_map};
-ghost use Rattle.tb_tree.specs.View.{plain_of};
-ghost use Rattle.tb_top.specs.Answer.{answer_of, two_names};
-ghost use Rattle.tb_top.specs.Names.{is_query_name};
-ghost use Rattle.tb_top.specs.Pairs.{witness_text, answer_by};
-ghost use Rattle.tb_top.specs.Transcript.{query_block};
+ghost use Rattle.std.specs.Prelude.{◌≡◌, ◌≤◌, IfOk, option_map};
+ghost use Rattle.tb_tree.specs.Documents.{found};
+ghost use Rattle.tb_pattern.specs.Plain.{nodes_in};
+ghost use Rattle.tb_pattern.specs.View.{edges_of};
+ghost use Rattle.tb_query.specs.Answer.{answer};
+ghost use Rattle.tb_table.specs.Documents.{docs_of};
+ghost use Rattle.tb_top.specs.Answered.{told, AsksFew};
+ghost use Rattle.tb_top.specs.History.{documents_in};
+ghost use Rattle.tb_top.specs.Kept.{changes_in};
 
-use crate::matching::{Match, matches};
-use crate::printer::push_query_block;
-use crate::query::TwoNamesQuery;
-use crate::witness::witness_lines;
+use crate::history::History;
 use std::alloc::{AllocError, Global};
-use tb_label::Store;
+use std::sync::Arc;
+use std::thread::Threads;
+use tb_edge::Gate;
+use tb_engine::{Answer, EngineFault, answer};
+use tb_parjoin::{OrderRule, Settings};
+use tb_query::Query;
+use tb_table::{Documents, Secret};
+use tb_tlc::translate;
+use tb_tree::Bytes;
 
-/// Appends the block of a query: command `number` is answered over the first `front` changes, of
-/// which the store is the document that the query names.
-pub fn push_answer(
+/// One worker, and the edges of a pattern as they are written.
+const SETTINGS: Settings = Settings {
+    workers: 1,
+    grain: 4096,
+    order: OrderRule::Written,
+    trace: false,
+};
+
+/// The answer of a pattern over the documents of a history; `None` where a sum is past the range.
+pub fn answered<R: Threads + Sync, G: Gate>(
+    rt: &R,
     alloc: Global,
-    number: u64,
-    front: u32,
-    store: Option<&Store>,
-    query: &TwoNamesQuery<'_>,
-    text: &mut Vec<u8>,
-) -> Result<(), AllocError>
-    requires first { IsTrue (is_query_name query.now.first.now) }
-    requires second { IsTrue (is_query_name query.now.second.now) }
-    ensures { OnOk result (text.new.items ≡ text.old.items ++ query_block number front
-        (answer_of (two_names query.now.first.now query.now.second.now)
-        (option_map (λ s. plain_of s.now) store.entry))) }
+    query: &Query,
+    history: &History,
+    secret: Secret,
+    gate: &G,
+) -> Result<Option<Answer>, AllocError>
+    requires few { AsksFew query.now }
+    ensures { IfOk result (λ a. option_map told a ≡ answer (documents_in (changes_in history.now)) query.now) }
 {
-    let found = found_in(alloc, store, query)?;
-    let witness = witness_lines(alloc, query.first, query.second)?;
-    push_query_block(number, front, &found, &witness, text)
+    let plan = translate(alloc, query)?;
+    let docs = asked(alloc, query, history, secret)?;
+    match answer(rt, alloc, &plan, &docs, &SETTINGS, gate) {
+        Ok(answer) => Ok(Some(answer)),
+        Err(EngineFault::Past) => Ok(None),
+        Err(EngineFault::NoMemory) => Err(AllocError),
+    }
 }
 
-/// The matches in the document, none where there is none.
-fn found_in(
+/// The documents that a query asks for.
+fn asked(
     alloc: Global,
-    store: Option<&Store>,
-    query: &TwoNamesQuery<'_>,
-) -> Result<Vec<Match>, AllocError>
-    ensures { IfOk result (λ found.
-        answer_by (witness_text query.now.first.now query.now.second.now) found.items
-        ≡ answer_of (two_names query.now.first.now query.now.second.now)
-        (option_map (λ s. plain_of s.now) store.entry)) }
+    query: &Query,
+    history: &History,
+    secret: Secret,
+) -> Result<Documents, AllocError>
+    requires few { AsksFew query.now }
+    ensures { IfOk result (λ docs. answer (docs_of docs) query.now ≡ answer (documents_in (changes_in history.now)) query.now) }
 {
-    let Some(store) = store else {
-        return Ok(Vec::new(alloc));
-    };
-    let found = matches(alloc, store, query.first, query.second)?;
-    Ok(found)
+    match query {
+        Query::Match(p) => one_document(alloc, &p.document, history, secret),
+        Query::Flwor(_) => Ok(Documents::with_secret(alloc, secret)),
+    }
+}
+
+/// The document of that name, where it is loaded.
+fn one_document(
+    alloc: Global,
+    name: &Bytes,
+    history: &History,
+    secret: Secret,
+) -> Result<Documents, AllocError>
+    ensures { IfOk result (λ docs. found name.now (docs_of docs) ≡ found name.now (documents_in (changes_in history.now))) }
+{
+    let mut docs = Documents::with_secret(alloc, secret);
+    if let Some(store) = history.find(name) {
+        docs.add(name.copy(alloc)?, Arc::try_clone(store)?)?;
+    }
+    Ok(docs)
 }

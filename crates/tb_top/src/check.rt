@@ -7,78 +7,105 @@ ghost use Rattle.tb_script.specs.Runnable.{IsRunnable, HasBodyThatFits, commands
 ghost use Rattle.tb_script.specs.declared.command.Command.TheVariants as command;
 ghost use Rattle.tb_top.specs.Check.{IsCheck, IsRefusal, AreRefusals, AreAllRefusals, load_refusal, refused_load, refused_query, commands_count, queries_in, counts_of, counts_line};
 ghost use Rattle.tb_top.specs.Pieces.{Grows};
+ghost use Rattle.tb_top.specs.Outputs.{ChecksTo, Passes};
+ghost use Rattle.tb_top.specs.Single.{IsBuilt};
 
 use crate::counts::{commands_in, loads_in, queries_in};
+use crate::faults::refusal;
 use crate::printer::{push_esis_fault, push_number, push_refused_query_line};
-use crate::refusal::query_fault_in;
 use std::alloc::{AllocError, Global};
 use tb_esis::{EsisFault, read_tree};
-use tb_flwor::QueryFault;
+use tb_flwor::{QueryFault, read_query};
+use tb_query::Query;
 use tb_script::{Command, Script, Workload};
 use tb_tree::Tree;
 
-/// The refusals and the counts of a script, whose commands are let go one after the other.
-pub fn check(alloc: Global, w: Workload) -> Result<Vec<u8>, AllocError>
+/// The refusals and the counts of a script, whose commands are let go one after the other; none where a query
+/// isn't built.
+pub fn check(alloc: Global, w: Workload) -> Result<Option<Vec<u8>>, AllocError>
     requires { IsRunnable w }
-    ensures { IfOk result (λ text. IsCheck (commands_in w) text.items) }
+    ensures { IfOk result (ChecksTo (commands_in w)) }
 {
     let mut text = Vec::new(alloc);
-    check_sessions(alloc, w.sessions, &mut text)?;
-    Ok(text)
+    let built = check_sessions(alloc, w.sessions, &mut text)?;
+    if !built {
+        return Ok(None);
+    }
+    Ok(Some(text))
 }
 
+/// False where a query isn't built.
 fn check_sessions(
     alloc: Global,
     sessions: Vec<Script>,
     text: &mut Vec<u8>,
-) -> Result<(), AllocError>
+) -> Result<bool, AllocError>
     requires fit { AllByRecursion (AllByRecursion HasBodyThatFits)
         (map (λ s. s.commands.items) sessions.items) }
     requires commands { commands_count (map (λ s. s.commands.items) sessions.items) < 2 ^ 32 }
     requires loads { loads_in (map (λ s. s.commands.items) sessions.items) < 2 ^ 32 }
     requires queries { queries_in (map (λ s. s.commands.items) sessions.items) < 2 ^ 32 }
-    ensures { OnOk result (Grows text.old.items text.new.items
-        (IsCheck (map (λ s. s.commands.items) sessions.items))) }
+    ensures { IfOk result (λ built. Passes built (AllByRecursion (AllByRecursion IsBuilt) (map (λ s. s.commands.items) sessions.items))
+        (Grows text.old.items text.new.items (IsCheck (map (λ s. s.commands.items) sessions.items)))) }
 {
     let count = sessions.len() as u64;
     let commands = commands_in(&sessions);
     let loads = loads_in(&sessions);
     let queries = queries_in(&sessions);
-    push_refusals(alloc, sessions, text)?;
+    let built = push_refusals(alloc, sessions, text)?;
+    if !built {
+        return Ok(false);
+    }
     push_counts(count, commands, loads, queries, text)?;
-    Ok(())
+    Ok(true)
 }
 
-fn push_refusals(alloc: Global, sessions: Vec<Script>, text: &mut Vec<u8>) -> Result<(), AllocError>
+/// False where a query isn't built.
+fn push_refusals(
+    alloc: Global,
+    sessions: Vec<Script>,
+    text: &mut Vec<u8>,
+) -> Result<bool, AllocError>
     requires { AllByRecursion (AllByRecursion HasBodyThatFits)
         (map (λ s. s.commands.items) sessions.items) }
-    ensures { OnOk result (Grows text.old.items text.new.items
-        (AreAllRefusals (map (λ s. s.commands.items) sessions.items))) }
+    ensures { IfOk result (λ built. Passes built (AllByRecursion (AllByRecursion IsBuilt) (map (λ s. s.commands.items) sessions.items))
+        (Grows text.old.items text.new.items (AreAllRefusals (map (λ s. s.commands.items) sessions.items)))) }
 {
     let mut session = 0;
     'sessions: for script in sessions {
         session += 1;
-        push_refusals_of(alloc, session, script.commands, text)?;
+        let built = push_refusals_of(alloc, session, script.commands, text)?;
+        if !built {
+            return Ok(false);
+        }
     }
-    Ok(())
+    Ok(true)
 }
+
+/// False where a query isn't built.
 
 fn push_refusals_of(
     alloc: Global,
     session: u64,
     commands: Vec<Command>,
     text: &mut Vec<u8>,
-) -> Result<(), AllocError>
+) -> Result<bool, AllocError>
     requires { AllByRecursion HasBodyThatFits commands.items }
-    ensures { OnOk result (Grows text.old.items text.new.items (AreRefusals session commands.items)) }
+    ensures { IfOk result (λ built. Passes built (AllByRecursion IsBuilt commands.items)
+        (Grows text.old.items text.new.items (AreRefusals session commands.items))) }
 {
     let mut number = 0;
     'commands: for command in commands {
         number += 1;
-        push_refusal(alloc, session, number, &command, text)?;
+        let built = push_refusal(alloc, session, number, &command, text)?;
+        if !built {
+            return Ok(false);
+        }
     }
-    Ok(())
+    Ok(true)
 }
+
+/// False where it isn't built.
 
 fn push_refusal(
     alloc: Global,
@@ -86,19 +113,20 @@ fn push_refusal(
     number: u64,
     command: &Command,
     text: &mut Vec<u8>,
-) -> Result<(), AllocError>
+) -> Result<bool, AllocError>
     requires { HasBodyThatFits command.now }
-    ensures { OnOk result (Grows text.old.items text.new.items
-        (IsRefusal session number command.now)) }
+    ensures { IfOk result (λ built. Passes built (IsBuilt command.now)
+        (Grows text.old.items text.new.items (IsRefusal session number command.now))) }
 {
     match command {
         Command::Load { lines, .. } => {
-            push_load_refusal(alloc, session, number, lines.as_slice(), text)
+            push_load_refusal(alloc, session, number, lines.as_slice(), text)?;
+            Ok(true)
         }
         Command::Query { text: query } => {
             push_query_refusal(alloc, session, number, query.as_slice(), text)
         }
-        Command::Tell { .. } | Command::Hear { .. } => Ok(()),
+        Command::Tell { .. } | Command::Hear { .. } => Ok(true),
     }
 }
 
@@ -125,13 +153,18 @@ fn push_query_refusal(
     number: u64,
     query: &[u8],
     text: &mut Vec<u8>,
-) -> Result<(), AllocError>
-    ensures { OnOk result (Grows text.old.items text.new.items
-        (IsRefusal session number (command.Query query.now))) }
+) -> Result<bool, AllocError>
+    ensures { IfOk result (λ built. Passes built (IsBuilt (command.Query query.now))
+        (Grows text.old.items text.new.items (IsRefusal session number (command.Query query.now)))) }
 {
-    match query_fault_in(alloc, query)? {
-        Some(fault) => push_refused_query(session, number, &fault, text),
-        None => Ok(()),
+    match read_query(alloc, query) {
+        Ok(Query::Match(_)) => Ok(true),
+        Ok(Query::Flwor(_)) => Ok(false),
+        Err(fault) => {
+            let fault = refusal(fault)?;
+            push_refused_query(session, number, &fault, text)?;
+            Ok(true)
+        }
     }
 }
 

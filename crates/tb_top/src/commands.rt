@@ -9,16 +9,18 @@ use crate::outcome::{Outcome, outcome_of};
 use crate::status::Status;
 use crate::task::task_of;
 use std::alloc::{AllocError, Global};
+use std::random::RandomSource;
 use std::thread::Threads;
 use tb_edge::{Gate, ReadFault, Sink, Source, read_up_to, write_all, write_pieces};
 use tb_script::ScriptFault;
+use tb_table::Secret;
 
 /// Bytes of input that are read at most.
 const MOST_INPUT: usize = 67_108_864;
 
 /// Does the command `single` or `check`: reads a script from the source, and writes its transcript,
 /// or its refusals and counts, to the sink. It waits for nobody.
-pub fn settle<R: Threads + Sync, S: Source, K: Sink, G: Gate>(
+pub fn settle<R: Threads + Sync + RandomSource, S: Source, K: Sink, G: Gate>(
     rt: &R,
     alloc: Global,
     words: &[String],
@@ -38,8 +40,6 @@ pub fn settle<R: Threads + Sync, S: Source, K: Sink, G: Gate>(
       faults_after = K.faults sink.new;
     }) result }
 {
-    let _ = rt;
-    let _ = gate;
     let Some(task) = task_of(words) else {
         return tell(sink, b"words\n", Status::Words);
     };
@@ -55,12 +55,23 @@ pub fn settle<R: Threads + Sync, S: Source, K: Sink, G: Gate>(
             Status::Script(ScriptFault::InputTooLong),
         );
     }
-    match outcome_of(alloc, task, bytes) {
+    match outcome_of(rt, alloc, drawn(rt), task, bytes, gate) {
         Ok(Outcome::Text(pieces)) => publish(sink, &pieces),
         Ok(Outcome::Faulty(fault, line)) => tell(sink, &line, Status::Script(fault)),
         Ok(Outcome::NotBuilt) => tell(sink, b"not-built\n", Status::NotBuilt),
         Err(AllocError) => tell(sink, b"memory\n", Status::Memory),
     }
+}
+
+/// A secret for hashing what documents choose. Where none can be drawn it is one that everyone knows, and only
+/// time can differ.
+fn drawn<R: RandomSource>(rt: &R) -> Secret {
+    let mut bytes = [0; 16];
+    if rt.fill_bytes(&mut bytes).is_err() {
+        return Secret::new(0, 0);
+    }
+    let drawn = u128::from_le_bytes(bytes);
+    Secret::new((drawn & u128::from(u64::MAX)) as u64, (drawn >> 64) as u64)
 }
 
 /// Writes the line that goes with a status, which stays as it is where the sink fails.

@@ -2,7 +2,9 @@
 
 ghost use Rattle.std.specs.Prelude.{◌≡◌, ◌+◌, ◌<◌, ◌∷◌, ◌++◌, [], IfOk, OnOk, OnErr, length, option_map};
 ghost use Rattle.tb_tree.specs.View.{plain_of};
-ghost use Rattle.tb_top.specs.History.{count_of, document_in};
+ghost use Rattle.std.specs.Arc.{arc_value};
+ghost use Rattle.tb_tree.specs.Documents.{found};
+ghost use Rattle.tb_top.specs.History.{count_of, documents_in};
 ghost use Rattle.tb_top.specs.Kept.{changes_in};
 
 use std::alloc::{AllocError, Global};
@@ -65,14 +67,11 @@ impl History {
     }
 
     /// The document of a name, where one is loaded.
-    pub fn find(&self, name: &Bytes) -> Option<&Store>
-        ensures { option_map (λ store. plain_of store.now) result
-            ≡ document_in (changes_in self.now) name.now }
+    pub fn find(&self, name: &Bytes) -> Option<&Arc<Store>>
+        ensures { option_map (λ store. plain_of (arc_value store.now)) result
+            ≡ found name.now (documents_in (changes_in self.now)) }
     {
-        match self.latest.get(name) {
-            Some(store) => Some(store),
-            None => None,
-        }
+        self.latest.get(name)
     }
 
     /// Adds a change of the session. Memory is taken first, so that nothing is changed without it.

@@ -1,18 +1,17 @@
 //! The lines of a transcript.
 
-ghost use Rattle.std.specs.Prelude.{◌≡◌, ◌++◌, OnOk, decimal, codes};
-ghost use Rattle.std.specs.List.{flat_map};
-ghost use Rattle.tb_top.specs.Pairs.{answer_by};
-ghost use Rattle.tb_top.specs.Transcript.{load_line, refused_line, refused_query_line, answered_line, query_block, history_line};
+ghost use Rattle.std.specs.Prelude.{◌≡◌, ◌++◌, OnOk, decimal, codes, option_map};
+ghost use Rattle.tb_top.specs.Transcript.{load_line, refused_line, refused_query_line, answered_line, past_line, query_block, history_line};
 ghost use Rattle.tb_top.specs.FaultText.{esis_fault_text, query_fault_text, number_text};
 ghost use Rattle.tb_top.specs.Running.{begun, named_line};
 ghost use Rattle.tb_top.specs.Kept.{change_in};
+ghost use Rattle.tb_top.specs.Answered.{told};
 
 use crate::fault_text::{esis_fault_line, esis_fault_name, query_fault_name, query_fault_number};
 use crate::history::Change;
-use crate::matching::Match;
 use itoa::Buffer;
 use std::alloc::AllocError;
+use tb_engine::Answer;
 use tb_esis::EsisFault;
 use tb_flwor::QueryFault;
 
@@ -140,21 +139,44 @@ fn push_fault_number(number: Option<u32>, text: &mut Vec<u8>) -> Result<(), Allo
     push_number(u64::from(number), text)
 }
 
-/// Appends the block of a query: command `number` was answered over the first `front` changes, by a
-/// witness for each match.
+/// Appends the block of a query: command `number` was answered over the first `front` changes.
 pub fn push_query_block(
     number: u64,
     front: u32,
-    found: &[Match],
-    witness: &[u8],
+    answer: &Option<Answer>,
     text: &mut Vec<u8>,
 ) -> Result<(), AllocError>
     ensures { OnOk result (text.new.items
-        ≡ text.old.items ++ query_block number front (answer_by witness.now found.now)) }
+        ≡ text.old.items ++ query_block number front (option_map told answer.now)) }
 {
-    push_answered_line(number, front, found.len() as u64, text)?;
-    push_witnesses(found, witness, text)?;
+    match answer {
+        Some(answer) => push_answer(number, front, answer, text),
+        None => push_past_line(number, front, text),
+    }
+}
+
+fn push_answer(
+    number: u64,
+    front: u32,
+    answer: &Answer,
+    text: &mut Vec<u8>,
+) -> Result<(), AllocError>
+    ensures { OnOk result (text.new.items ≡ text.old.items
+        ++ (answered_line number front answer.now.count ++ answer.now.text.items ++ codes ".\n")) }
+{
+    push_answered_line(number, front, answer.count, text)?;
+    text.extend_from_slice(&answer.text)?;
     text.extend_from_slice(b".\n")
+}
+
+fn push_past_line(number: u64, front: u32, text: &mut Vec<u8>) -> Result<(), AllocError>
+    ensures { OnOk result (text.new.items ≡ text.old.items ++ past_line number front) }
+{
+    push_number(number, text)?;
+    text.extend_from_slice(b" query front ")?;
+    push_number(u64::from(front), text)?;
+    text.extend_from_slice(b" refused past-128-bits\n")?;
+    Ok(())
 }
 
 fn push_answered_line(
@@ -171,15 +193,6 @@ fn push_answered_line(
     text.extend_from_slice(b" trees ")?;
     push_number(trees, text)?;
     text.push(b'\n')?;
-    Ok(())
-}
-
-fn push_witnesses(found: &[Match], witness: &[u8], text: &mut Vec<u8>) -> Result<(), AllocError>
-    ensures { OnOk result (text.new.items ≡ text.old.items ++ flat_map (λ m. witness.now) found.now) }
-{
-    'matches: for _match in found {
-        text.extend_from_slice(witness)?;
-    }
     Ok(())
 }
 

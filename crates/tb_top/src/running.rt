@@ -1,6 +1,6 @@
 //! Doing the commands of a script, one after the other.
 
-ghost use Rattle.std.specs.Prelude.{◌≡◌, ◌+◌, ◌^◌, ◌<◌, ◌≤◌, ℕ, List, Some, None, IsSome, IfOk, OnOk, length, map};
+ghost use Rattle.std.specs.Prelude.{◌≡◌, ◌+◌, ◌^◌, ◌<◌, ◌≤◌, ℕ, List, Some, None, Ok, IsSome, IfOk, OnOk, length, map};
 ghost use Rattle.tb_tree.specs.Plain.{one};
 ghost use Rattle.tb_tree.specs.View.{plain_of};
 ghost use Rattle.tb_tree.specs.Numbers.{count};
@@ -10,32 +10,38 @@ ghost use Rattle.tb_esis.specs.Faults.{fault_of};
 ghost use Rattle.tb_core.specs.World.{IsAllowed, answer, after, told_at};
 ghost use Rattle.tb_script.specs.declared.command.Command.TheVariants as command;
 ghost use Rattle.tb_script.specs.Runnable.{IsRunnable};
-ghost use Rattle.tb_top.specs.QueryText.{HasQuery};
-ghost use Rattle.tb_flwor.specs.Faults.{IsFaultOf};
-ghost use Rattle.tb_top.specs.Single.{IsBuilt, world_of};
+ghost use Rattle.tb_flwor.specs.Calls.{Reads};
+ghost use Rattle.tb_flwor.specs.Faults.{IsRefused};
+ghost use Rattle.tb_top.specs.Answered.{AsksFew};
+ghost use Rattle.tb_top.specs.Single.{world_of};
 ghost use Rattle.std.specs.List.{range_with_len};
-ghost use Rattle.tb_top.specs.Running.{progress_of, at_start, begun, Stands, IsReadyFor, Does};
+ghost use Rattle.tb_top.specs.Running.{progress_of, at_start, begun, Stands, IsReadyFor, Does, Ends};
 
-use crate::answering::push_answer;
+use crate::answering::answered;
 use crate::counts::loads_in;
+use crate::faults::refusal;
 use crate::history::History;
 use crate::printer::{
-    push_front_line, push_load_line, push_refused_line, push_refused_query_line, push_session_line,
+    push_front_line, push_load_line, push_query_block, push_refused_line, push_refused_query_line,
+    push_session_line,
 };
-use crate::query::query_in;
-use crate::refusal::query_fault_in;
 use std::alloc::{AllocError, Global};
+use std::thread::Threads;
 use tb_core::{Event, World};
+use tb_edge::Gate;
 use tb_esis::{EsisFault, read_tree};
-use tb_flwor::QueryFault;
+use tb_flwor::{QueryFault, read_query};
 use tb_label::Store;
+use tb_query::Query;
 use tb_script::{Command, Turnstep, Workload};
+use tb_table::Secret;
 use tb_tree::{Bytes, Tree};
 
 /// What the commands that are done leave.
 #[derive(Drop)]
 pub struct Running {
     alloc: Global,
+    secret: Secret,
     pub world: World,
     pub history: History,
     /// Each session's part of the transcript so far.
@@ -43,19 +49,25 @@ pub struct Running {
 }
 
 impl Running {
-    /// Does a command.
-    pub fn act(&mut self, step: Turnstep, command: Command) -> Result<(), AllocError>
+    /// Does a command; false where it isn't built.
+    pub fn act<R: Threads + Sync, G: Gate>(
+        &mut self,
+        rt: &R,
+        step: Turnstep,
+        command: Command,
+        gate: &G,
+    ) -> Result<bool, AllocError>
         requires stands { Stands (progress_of self.old) step }
         requires ready { IsReadyFor self.old.world command }
-        ensures { OnOk result
-            (Does step command (progress_of self.old) (progress_of self.new)) }
+        ensures { IfOk result (λ done. Ends done step command (progress_of self.old) (progress_of self.new)) }
     {
         match command {
-            Command::Load { name, lines } => self.load(step, &name, lines),
-            Command::Query { text } => self.query(step, text.as_slice()),
-            Command::Tell { mark, name } => self.tell(step, mark, name.as_slice()),
-            Command::Hear { mark, name } => self.hear(step, mark, name.as_slice()),
+            Command::Load { name, lines } => self.load(step, &name, lines)?,
+            Command::Query { text } => return self.query(rt, step, text.as_slice(), gate),
+            Command::Tell { mark, name } => self.tell(step, mark, name.as_slice())?,
+            Command::Hear { mark, name } => self.hear(step, mark, name.as_slice())?,
         }
+        Ok(true)
     }
 
     fn load(&mut self, step: Turnstep, name: &Bytes, lines: Bytes) -> Result<(), AllocError>
@@ -102,21 +114,30 @@ impl Running {
         Ok(())
     }
 
-    fn query(&mut self, step: Turnstep, text: &[u8]) -> Result<(), AllocError>
+    fn query<R: Threads + Sync, G: Gate>(
+        &mut self,
+        rt: &R,
+        step: Turnstep,
+        text: &[u8],
+        gate: &G,
+    ) -> Result<bool, AllocError>
         requires stands { Stands (progress_of self.old) step }
-        requires ready { IsBuilt (command.Query text.now) }
-        ensures { OnOk result
-            (Does step (command.Query text.now) (progress_of self.old) (progress_of self.new)) }
+        ensures { IfOk result (λ done. Ends done step (command.Query text.now) (progress_of self.old) (progress_of self.new)) }
     {
-        match query_fault_in(self.alloc, text)? {
-            Some(fault) => self.refuse_query(step, &fault),
-            None => self.answer(step, text),
+        match read_query(self.alloc, text) {
+            Ok(Query::Match(p)) => self.answer(rt, step, &Query::Match(p), gate)?,
+            Ok(Query::Flwor(_)) => return Ok(false),
+            Err(fault) => {
+                let fault = refusal(fault)?;
+                self.refuse_query(step, &fault)?;
+            }
         }
+        Ok(true)
     }
 
     fn refuse_query(&mut self, step: Turnstep, fault: &QueryFault) -> Result<(), AllocError>
         requires stands { Stands (progress_of self.old) step }
-        ensures { OnOk result ((text : List ℕ) → IsFaultOf text (Some fault.now)
+        ensures { OnOk result ((text : List ℕ) → IsRefused text fault.now
             → Does step (command.Query text) (progress_of self.old) (progress_of self.new)) }
     {
         let part = &mut self.parts[step.session as usize];
@@ -125,22 +146,23 @@ impl Running {
     }
 
     /// Answers a query whose text has no fault.
-    fn answer(&mut self, step: Turnstep, text: &[u8]) -> Result<(), AllocError>
+    fn answer<R: Threads + Sync, G: Gate>(
+        &mut self,
+        rt: &R,
+        step: Turnstep,
+        query: &Query,
+        gate: &G,
+    ) -> Result<(), AllocError>
         requires stands { Stands (progress_of self.old) step }
-        requires faultless { IsFaultOf text.now None }
-        requires built { HasQuery text.now }
-        ensures { OnOk result
-            (Does step (command.Query text.now) (progress_of self.old) (progress_of self.new)) }
+        requires few { AsksFew query.now }
+        ensures { OnOk result ((text : List ℕ) → Reads text (Ok query.now)
+            → Does step (command.Query text) (progress_of self.old) (progress_of self.new)) }
     {
-        let Some(query) = query_in(text) else {
-            unreachable!();
-        };
         let session = step.session;
         let front = number(&mut self.world, Event::Look { session });
-        let name = Bytes::from_vec(query.document.to_vec(self.alloc)?);
-        let store = self.history.find(&name);
+        let answer = answered(rt, self.alloc, query, &self.history, self.secret, gate)?;
         let part = &mut self.parts[session as usize];
-        push_answer(self.alloc, number_in(step), front, store, &query, part)?;
+        push_query_block(number_in(step), front, &answer, part)?;
         Ok(())
     }
 
@@ -172,13 +194,14 @@ impl Running {
 }
 
 /// What was done of the script before its first command.
-pub fn start(alloc: Global, w: &Workload) -> Result<Running, AllocError>
+pub fn start(alloc: Global, secret: Secret, w: &Workload) -> Result<Running, AllocError>
     requires runnable { IsRunnable w.now }
     ensures { IfOk result (λ r. progress_of r ≡ at_start w.now) }
 {
     let sessions = w.sessions.len();
     Ok(Running {
         alloc,
+        secret,
         world: World::new(
             alloc,
             sessions as u32,

@@ -4,7 +4,8 @@ ghost use Rattle.std.specs.Prelude.{◌≡◌, ◌++◌, IfOk, OnOk, IsSome, map
 ghost use Rattle.std.specs.List.{flat_map};
 ghost use Rattle.tb_script.specs.Runnable.{IsRunnable, commands_in};
 ghost use Rattle.tb_script.specs.Schedule.{command_at};
-ghost use Rattle.tb_top.specs.Single.{AreBuilt, IsTranscript};
+ghost use Rattle.tb_top.specs.Single.{IsTranscript};
+ghost use Rattle.tb_top.specs.Outputs.{ComesToText};
 ghost use Rattle.tb_top.specs.Transcript.{history_lines, history_part};
 ghost use Rattle.tb_top.specs.Pieces.{joined, text_in};
 ghost use Rattle.tb_top.specs.Running.{progress_of, ended};
@@ -17,25 +18,36 @@ use crate::printer::{push_history_line, push_number};
 use crate::running::{Running, start};
 use std::alloc::{AllocError, Global};
 use std::mem::{forget, replace};
+use std::thread::Threads;
+use tb_edge::Gate;
 use tb_script::{Command, Turnstep, Workload, schedule};
+use tb_table::Secret;
 use tb_tree::Bytes;
 
-/// The transcript of a script, in pieces. Each command is taken out of the script when its turn comes, so a body
-/// is let go behind its reading.
-pub fn transcript(alloc: Global, w: Workload) -> Result<Vec<Vec<u8>>, AllocError>
+/// The transcript of a script, in pieces, or none where a query isn't built. Each command is taken out of the
+/// script when its turn comes, so a body is let go behind its reading.
+pub fn transcript<R: Threads + Sync, G: Gate>(
+    rt: &R,
+    alloc: Global,
+    secret: Secret,
+    w: Workload,
+    gate: &G,
+) -> Result<Option<Vec<Vec<u8>>>, AllocError>
     requires runnable { IsRunnable w }
-    requires built { AreBuilt w }
-    ensures { IfOk result (λ pieces. IsTranscript w (joined pieces.items)) }
+    ensures { IfOk result (ComesToText w (IsTranscript w)) }
 {
     let steps = schedule(alloc, &w)?;
-    let mut running = start(alloc, &w)?;
+    let mut running = start(alloc, secret, &w)?;
     let mut left = w;
     'steps: for step in &steps {
         let command = take_command(alloc, *step, &mut left);
-        running.act(*step, command)?;
+        let done = running.act(rt, *step, command, gate)?;
+        if !done {
+            return Ok(None);
+        }
     }
     let pieces = finish(alloc, running)?;
-    Ok(pieces)
+    Ok(Some(pieces))
 }
 
 /// Takes the command of a step out of the script.

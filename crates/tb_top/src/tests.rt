@@ -5,14 +5,13 @@ ghost use Rattle.std.specs.Prelude.{◌≤◌};
 
 use super::*;
 use std::alloc::{AllocError, Global};
+use std::random::RandomSource;
 use std::test::Fail;
 use std::thread::Threads;
 use tb_edge::{MemSink, MemSource, OpenGate};
 use tb_script::ScriptFault;
 
 mod labels;
-mod matchings;
-mod plain;
 mod stores;
 
 // One session loads a document and tells a mark; the other hears it and asks.
@@ -37,7 +36,7 @@ fn words_of(alloc: Global, given: &[&str]) -> Result<Vec<String>, AllocError> {
 }
 
 // The status, and what the sink holds; the source and the sink fail at these calls.
-fn settled<R: Threads + Sync>(
+fn settled<R: Threads + Sync + RandomSource>(
     rt: &R,
     alloc: Global,
     words: &[&str],

@@ -1,20 +1,18 @@
--- The script is read, and the test says whether its queries are built.
-use Rattle.std.proofs.Common.{◌≡◌, ◌↔◌, ℕ, IsTrue, List, map, sym, ◌∙◌, subst}
-use Rattle.std.specs.List.{AllByRecursion}
-use Rattle.std.proofs.lemmas.Bool.{false≢true}
+-- The script is read, and comes to a text where its queries are built.
+use Rattle.std.proofs.Common.{ℕ, List, subst}
 use Rattle.tb_script.specs.Calls.{IsReadAs}
-use Rattle.tb_script.specs.declared.command.Script.{Script}
-use Rattle.tb_top.specs.Single.{IsBuilt}
+use Rattle.tb_top.specs.Calls.{IsOutput}
+use Rattle.tb_top.specs.Outputs.{ComesToText}
 use Rattle.tb_top.proofs.outcome.outcome_of.Goals as goal
 
-pub returns-then-not-built : goal.returns-then-not-built
-returns-then-not-built c =
+pub returns-in-Some : goal.returns-in-Some
+returns-in-Some g c =
     let w = c.in-Ok.w in
-    let test = subst (λ (ss : List Script). IsTrue c.in_ok-built.built ↔ AllByRecursion (AllByRecursion IsBuilt) (map (λ s. s.commands.items) ss)) c.deref-2.ensures.value c.in_ok-built.ensures in
-    (w, (subst (λ (b : List ℕ). IsReadAs b w) c.deref.ensures.value c.in-Ok.ensures.read, λ built. false≢true (sym c.if-not-built.true ∙ test.1 built)))
+    let comes = subst (ComesToText w (IsOutput c.args.task w)) c.in-Some.is c.in_ok-text.ensures in
+    (w, (subst (λ (b : List ℕ). IsReadAs b w) c.deref.ensures.value c.in-Ok.ensures.read, comes.0, comes.1))
 
-pub returns : goal.returns
-returns c =
+pub returns-in-None : goal.returns-in-None
+returns-in-None g c =
     let w = c.in-Ok.w in
-    let test = subst (λ (ss : List Script). IsTrue c.in_ok-built.built ↔ AllByRecursion (AllByRecursion IsBuilt) (map (λ s. s.commands.items) ss)) c.deref-2.ensures.value c.in_ok-built.ensures in
-    (w, (subst (λ (b : List ℕ). IsReadAs b w) c.deref.ensures.value c.in-Ok.ensures.read, test.0 c.if-not-built.false, c.in_ok-text.ensures))
+    let comes = subst (ComesToText w (IsOutput c.args.task w)) c.in-None.is c.in_ok-text.ensures in
+    (w, (subst (λ (b : List ℕ). IsReadAs b w) c.deref.ensures.value c.in-Ok.ensures.read, comes))

@@ -7,7 +7,7 @@ use Rattle.tb_top.proofs.TakenLaws.{AreApart, AreLeft}
 use Rattle.tb_top.proofs.single.transcript.Given as goal
 
 abbrev pub invariant-steps : goal.invariant-steps
-invariant-steps l =
+invariant-steps g l =
     Done l.fn.w (take l.step-index l.step-items) (progress_of l.running)
     × Goes l.fn.w (drop l.step-index l.step-items) (progress_of l.running)
     × AreLeft l.fn.w l.left (drop l.step-index l.step-items)

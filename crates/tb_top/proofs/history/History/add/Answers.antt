@@ -2,7 +2,8 @@
 use Rattle.std.proofs.Common.{◌≡◌, ℕ, ◌+◌, ◌<◌, List, [], ◌∷◌, ◌++◌, length, get_or, map, set, sym, ap, ◌∙◌, arith}
 use Rattle.std.proofs.lemmas.List.{get_or_read}
 use Rattle.tb_tree.specs.View.{plain_of}
-use Rattle.tb_top.specs.History.{Change, count_of, document_in}
+use Rattle.tb_tree.specs.Documents.{found}
+use Rattle.tb_top.specs.History.{Change, count_of, documents_in}
 use Rattle.tb_top.specs.Kept.{Kept, change_in, changes_in}
 use Rattle.tb_top.proofs.HistoryLaws.{same-change, changes-grown, count_of-few, counts-more, latest-more}
 use Rattle.tb_top.proofs.history.History.add.Goals as goal
@@ -39,7 +40,7 @@ invariant_of-self-2 c =
           λ name.
           latest-more c.self.inside.latest c.insert.new.self old d c.in_ok-latest.latest c.in_ok-key.key c.self.invariant.latest c.in_ok-insert.ensures.updates.0 c.in_ok-key.ensures
           (ap plain_of (c.in_ok-latest.ensures ∙ c.in_ok-store.ensures.ok)) name
-          ∙ ap (λ cs. document_in cs name) (sym whole);
+          ∙ ap (λ cs. found name (documents_in cs)) (sym whole);
       counts =
           λ session.
           ap (λ n. get_or (set counts c.args.session (n + 1)) session 0) read ∙ counts-more counts old d c.self.invariant.counts within session

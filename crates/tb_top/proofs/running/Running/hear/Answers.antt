@@ -13,6 +13,6 @@ returns c =
     let parts = old.parts.items in
     let stands = c.requires.stands in
     let within = part-within old c.args.step stands in
-    does-look c.args.step (command.Hear c.args.mark c.args.name.now) (heard c.number-front.result) (progress_of old) _ refl (ap (λ o. o ∷ []) c.number-front.ensures.answer) tt c.number-front.ensures.after refl refl
+    does-look c.args.step (command.Hear c.args.mark c.args.name.now) (heard c.number-front.result) (progress_of old) _ tt refl (ap (λ o. o ∷ []) c.number-front.ensures.answer) tt c.number-front.ensures.after refl refl
     (part-grows parts c.args.step.session c.index_mut-part.result.now c.push_front_line.new.text _ within c.index_mut-part.ensures.value
     (c.in_ok-push_front_line.ensures ∙ ap (λ n. c.index_mut-part.result.now.items ++ heard_line n c.args.name.now c.number-front.result) c.number_in.ensures))

@@ -13,6 +13,6 @@ returns c name lines wrong =
     let parts = old.parts.items in
     let stands = c.requires.stands in
     let within = part-within old c.args.step stands in
-    does-look c.args.step (command.Load name lines) (refused c.args.fault.now) (progress_of old) _ refl refl wrong refl refl refl
+    does-look c.args.step (command.Load name lines) (refused c.args.fault.now) (progress_of old) _ tt refl refl wrong refl refl refl
     (part-grows parts c.args.step.session c.index_mut-part.result.now c.push_refused_line.new.text _ within c.index_mut-part.ensures.value
     (c.in_ok-push_refused_line.ensures ∙ ap (λ n. c.index_mut-part.result.now.items ++ refused_line n c.args.fault.now) c.number_in.ensures))
