@@ -22,11 +22,28 @@ pub fn push_escaped(value: &[u8], out: &mut Vec<u8>) -> Result<bool, AllocError>
     'runs: while let Some((run, byte, behind)) = next_escape(rest) {
         out.extend_from_slice(run)?;
         push_escape(byte, out)?;
-        rest = behind;
+        rest = push_escapes(behind, out)?;
         told = true;
     }
     out.extend_from_slice(rest)?;
     Ok(told)
+}
+
+/// Appends the escapes of the bytes before the first plain one, and gives what follows these.
+fn push_escapes<'a>(bytes: &'a [u8], out: &mut Vec<u8>) -> Result<&'a [u8], AllocError>
+    ensures within { IfOk result (λ rest. length rest.now ≤ length bytes.now) }
+    ensures escaped { IfOk result (λ rest. out.new.items ++ escaped rest.now ≡ out.old.items ++ escaped bytes.now) }
+    ensures prefix { IsGrown out.old.items out.new.items }
+{
+    let mut rest = bytes;
+    'escapes: while let [byte, behind @ ..] = rest {
+        if is_plain(*byte) {
+            return Ok(rest);
+        }
+        push_escape(*byte, out)?;
+        rest = behind;
+    }
+    Ok(rest)
 }
 
 /// The plain bytes that stand first, the first byte that isn't plain, and what follows it.

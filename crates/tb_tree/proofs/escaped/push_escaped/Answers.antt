@@ -13,9 +13,12 @@ runs-preserved c =
     c.in_ok-push_escape.ensures.escaped ∙ ap (λ l. l ++ escaped_byte c.in-Some.byte) c.in_ok-extend_from_slice.ensures.items
     ∙ append_assoc c.runs.out.items c.in-Some.run'.now (escaped_byte c.in-Some.byte) in
     record {
-      whole = written_more c.runs.out.items _ _ more _ (escaped c.in-Some.behind.now) is (escaped-cut c.runs.rest.now c.in-Some.run'.now c.in-Some.behind.now c.in-Some.byte cut) c.runs.invariant.whole;
+      whole = c.in_ok-rest.ensures.escaped ∙ written_more c.runs.out.items _ _ more _ (escaped c.in-Some.behind.now) is (escaped-cut c.runs.rest.now c.in-Some.run'.now c.in-Some.behind.now c.in-Some.byte cut) c.runs.invariant.whole;
       told = told-more c.runs.told _ _ (cut-told c.runs.rest.now c.in-Some.run'.now c.in-Some.behind.now c.in-Some.byte cut) c.runs.invariant.told;
-      prefix = grown c.args.out.now.items c.runs.out.items c.push_escape.new.out.items more c.runs.invariant.prefix is;
+      prefix =
+          let first = grown c.args.out.now.items c.runs.out.items c.push_escape.new.out.items more c.runs.invariant.prefix is in
+          let then = c.push_escapes.ensures.prefix in
+          grown c.args.out.now.items c.push_escape.new.out.items c.push_escapes.new.out.items then.0 first then.1;
     }
 
 pub returns-clause-escaped : goal.returns-clause-escaped
