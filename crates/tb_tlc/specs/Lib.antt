@@ -1,4 +1,5 @@
 -- What plans mean, and which plans queries have.
+pub mod Shared
 pub mod Meaning
 pub mod Ties
 pub mod Planned

@@ -5,20 +5,20 @@ ghost use Rattle.tb_tlc.specs.Planned.{with_stood, with_clause, with_clauses, fi
 ghost use Rattle.tb_tlc.specs.Scopes.{seen};
 
 use crate::Op;
-use crate::copies::copy_path;
 use crate::operands::push_stood;
 use crate::scope::{Scope, standing};
+use crate::stood::StoodPath;
 use crate::ties::tie_for;
 use std::alloc::{AllocError, Global};
 use tb_pattern::Mark;
-use tb_query::{Clause, Path};
+use tb_query::Clause;
 
 /// Pushes the operators of clauses, and answers the number of the next column.
 pub fn push_clauses(
     alloc: Global,
     ops: &mut Vec<Op>,
     scope: &mut Scope,
-    ties: &[(Path, Path)],
+    ties: &[(StoodPath, StoodPath)],
     clauses: &[Clause],
 ) -> Result<u32, AllocError>
     requires few { 3 * length clauses.now < 4294967296 }
@@ -40,7 +40,7 @@ fn push_clause(
     alloc: Global,
     ops: &mut Vec<Op>,
     scope: &mut Scope,
-    ties: &[(Path, Path)],
+    ties: &[(StoodPath, StoodPath)],
     later: &[Clause],
     next: u32,
     clause: &Clause,
@@ -53,7 +53,7 @@ fn push_clause(
     match clause {
         Clause::For { var, empty, path } => {
             let path = standing(alloc, scope.lets.as_slice(), path)?;
-            let tie = tie_for(ties, scope.columns.as_slice(), *var, &path.start, later);
+            let tie = tie_for(ties, scope.columns.as_slice(), *var, &path, later);
             push_for(alloc, ops, scope, next, *var, for_mark(*empty), path, tie)
         }
         Clause::Let { var, path } => {
@@ -72,8 +72,8 @@ fn push_for(
     next: u32,
     var: u32,
     mark: Mark,
-    path: Path,
-    tie: Option<&(Path, Path)>,
+    path: StoodPath,
+    tie: Option<&(StoodPath, StoodPath)>,
 ) -> Result<u32, AllocError>
     requires narrow { next + 3 < 4294967296 }
     ensures draft { IfOk result (λ n. record { ops = ops.new.items; scope = seen scope.new; next = n }
@@ -87,8 +87,8 @@ fn push_for(
             Ok(next + 1)
         }
         Some(tie) => {
-            let left = copy_path(alloc, &tie.0)?;
-            let right = copy_path(alloc, &tie.1)?;
+            let left = tie.0.share(alloc)?;
+            let right = tie.1.share(alloc)?;
             push_stood(ops, scope.columns.as_slice(), next, Mark::Any, left)?;
             push_stood(ops, scope.columns.as_slice(), next + 1, mark, path)?;
             scope.columns.insert(0, (var, next + 1))?;

@@ -6,17 +6,19 @@
 
 mod clauses;
 mod conditions;
-mod copies;
 mod operands;
 mod ordering;
 mod plan;
 mod planning;
 mod returned;
 mod scope;
+mod shared;
+mod stood;
 mod ties;
 
 pub use plan::{ColumnStart, Op, Plan};
 pub use planning::translate;
+pub use shared::{Name, Steps};
 
 #[cfg(test)]
 mod tests;

@@ -6,7 +6,8 @@ ghost use Rattle.tb_tlc.specs.Planned.{stand_op, path_op, operand_ops, operand_w
 ghost use Rattle.tb_tlc.specs.Scopes.{seen};
 
 use crate::Op;
-use crate::scope::{Scope, column_start, standing};
+use crate::scope::{Scope, standing};
+use crate::stood::StoodPath;
 use std::alloc::{AllocError, Global};
 use tb_pattern::Mark;
 use tb_query::{Operand, Path};
@@ -32,13 +33,11 @@ pub fn push_stood(
     columns: &[(u32, u32)],
     next: u32,
     mark: Mark,
-    path: Path,
+    path: StoodPath,
 ) -> Result<(), AllocError>
     ensures { OnOk result (ops.new.items ≡ ops.old.items ++ stand_op columns.now next mark path ∷ []) }
 {
-    let Path { start, steps } = path;
-    let start = column_start(columns, next, start);
-    ops.push(Op::Select { start, steps, mark })?;
+    ops.push(path.into_op(columns, next, mark))?;
     Ok(())
 }
 

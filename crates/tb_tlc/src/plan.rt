@@ -1,9 +1,9 @@
 //! Plans, operator by operator.
 
+use crate::{Name, Steps};
 use tb_number::{AggKind, CmpOp, SortKey};
 use tb_pattern::{Mark, Pattern};
-use tb_query::Step;
-use tb_tree::{Against, Bytes, Items, Shape};
+use tb_tree::{Against, Items, Shape};
 
 /// Operators in order over one table, which starts with one row and no column. Columns are numbered from 0
 /// in the order in which they were added.
@@ -24,7 +24,7 @@ pub enum Op {
     /// with `Any` one list.
     Select {
         start: ColumnStart,
-        steps: Items<Step>,
+        steps: Steps,
         mark: Mark,
     },
     /// Keeps the rows in which some value of the column stands so.
@@ -68,7 +68,7 @@ pub enum Op {
 #[derive(Debug, Drop)]
 pub enum ColumnStart {
     /// At the document node of this name.
-    Document(Bytes),
+    Document(Name),
     /// At each node of the column of this number, from 0.
     Column(u32),
 }

@@ -2,11 +2,10 @@
 
 ghost use Rattle.std.specs.Prelude.{◌≡◌, ◌++◌, [], IfOk, Option};
 ghost use Rattle.tb_query.specs.Tuples.{standing, let_path, behind_variable};
-ghost use Rattle.tb_tlc.specs.Planned.{column_of, column_start};
+ghost use Rattle.tb_tlc.specs.Planned.{column_of};
 ghost use Rattle.tb_tlc.specs.Scopes.{seen};
 
-use crate::ColumnStart;
-use crate::copies::{copy_path, copy_steps, join_steps};
+use crate::stood::StoodPath;
 use std::alloc::{AllocError, Global};
 use tb_query::{Path, Start, Step};
 
@@ -14,7 +13,7 @@ use tb_query::{Path, Start, Step};
 /// at such a variable, and the others with their columns.
 #[derive(Debug, Drop)]
 pub struct Scope {
-    pub lets: Vec<(u32, Path)>,
+    pub lets: Vec<(u32, StoodPath)>,
     pub columns: Vec<(u32, u32)>,
 }
 
@@ -31,11 +30,15 @@ impl Scope {
 }
 
 /// The path that a path stands for.
-pub fn standing(alloc: Global, lets: &[(u32, Path)], path: &Path) -> Result<Path, AllocError>
+pub fn standing(
+    alloc: Global,
+    lets: &[(u32, StoodPath)],
+    path: &Path,
+) -> Result<StoodPath, AllocError>
     ensures { IfOk result (λ p. p ≡ standing lets.now path.now) }
 {
     match &path.start {
-        Start::Document(_) => copy_path(alloc, path),
+        Start::Document(name) => StoodPath::from_document(alloc, name, path.steps.as_slice()),
         Start::Var(var) => behind_variable(alloc, lets, *var, path.steps.as_slice()),
     }
 }
@@ -43,36 +46,22 @@ pub fn standing(alloc: Global, lets: &[(u32, Path)], path: &Path) -> Result<Path
 /// The steps behind what the variable stands for.
 fn behind_variable(
     alloc: Global,
-    lets: &[(u32, Path)],
+    lets: &[(u32, StoodPath)],
     var: u32,
     steps: &[Step],
-) -> Result<Path, AllocError>
+) -> Result<StoodPath, AllocError>
     ensures { IfOk result (λ p. p ≡ behind_variable var (let_path var lets.now) steps.now) }
 {
     'lets: for named in lets {
         if var == named.0 {
-            return join_steps(alloc, &named.1, steps);
+            return named.1.behind(alloc, steps);
         }
     }
-    let steps = copy_steps(alloc, steps)?;
-    Ok(Path {
-        start: Start::Var(var),
-        steps,
-    })
-}
-
-/// Where the steps of a path start that starts at no variable of `LET`.
-pub fn column_start(columns: &[(u32, u32)], next: u32, start: Start) -> ColumnStart
-    ensures { result ≡ column_start next columns.now start }
-{
-    match start {
-        Start::Document(name) => ColumnStart::Document(name),
-        Start::Var(var) => ColumnStart::Column(column_of(columns, var, next)),
-    }
+    StoodPath::from_variable(alloc, var, steps)
 }
 
 /// The column of a variable, or the next one where it has none.
-fn column_of(columns: &[(u32, u32)], var: u32, next: u32) -> u32
+pub fn column_of(columns: &[(u32, u32)], var: u32, next: u32) -> u32
     ensures { result ≡ column_of next var columns.now }
 {
     'columns: for placed in columns {

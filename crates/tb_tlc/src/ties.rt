@@ -4,19 +4,20 @@ ghost use Rattle.std.specs.Prelude.{◌≡◌, ◌++◌, [], IfOk, OnOk, option_
 ghost use Rattle.tb_query.specs.Tuples.{standing};
 ghost use Rattle.tb_query.specs.declared.operand.Operand.TheVariants.{Nodes};
 ghost use Rattle.tb_tlc.specs.Ties.{ties, ties_of, ties_of_sides, both_ways, is_equality, with_let, lets_after};
-ghost use Rattle.tb_tlc.specs.Ties.{binds, is_free, has_column, starts_at, starts_before, leads_to, is_document, tie_for};
+ghost use Rattle.tb_tlc.specs.Ties.{binds, is_free, has_column, starts_at, starts_before, leads_to, tie_for};
 
 use crate::scope::standing;
+use crate::stood::StoodPath;
 use std::alloc::{AllocError, Global};
 use tb_number::CmpOp;
-use tb_query::{Clause, Comparison, Operand, Path, Right, Start};
+use tb_query::{Clause, Comparison, Operand, Path, Right};
 
 /// The ties of all conditions, each either way round.
 pub fn ties(
     alloc: Global,
     clauses: &[Clause],
     conds: &[Comparison],
-) -> Result<Vec<(Path, Path)>, AllocError>
+) -> Result<Vec<(StoodPath, StoodPath)>, AllocError>
     ensures { IfOk result (λ all. all.items ≡ ties (lets_after [] clauses.now) conds.now) }
 {
     let lets = lets_after(alloc, clauses)?;
@@ -28,7 +29,7 @@ pub fn ties(
 }
 
 /// The variables of `LET` with their paths, the last one bound first.
-fn lets_after(alloc: Global, clauses: &[Clause]) -> Result<Vec<(u32, Path)>, AllocError>
+fn lets_after(alloc: Global, clauses: &[Clause]) -> Result<Vec<(u32, StoodPath)>, AllocError>
     ensures { IfOk result (λ lets. lets.items ≡ lets_after [] clauses.now) }
 {
     let mut lets = Vec::new(alloc);
@@ -38,7 +39,11 @@ fn lets_after(alloc: Global, clauses: &[Clause]) -> Result<Vec<(u32, Path)>, All
     Ok(lets)
 }
 
-fn push_let(alloc: Global, lets: &mut Vec<(u32, Path)>, clause: &Clause) -> Result<(), AllocError>
+fn push_let(
+    alloc: Global,
+    lets: &mut Vec<(u32, StoodPath)>,
+    clause: &Clause,
+) -> Result<(), AllocError>
     ensures { OnOk result (lets.new.items ≡ with_let lets.old.items clause.now) }
 {
     match clause {
@@ -54,8 +59,8 @@ fn push_let(alloc: Global, lets: &mut Vec<(u32, Path)>, clause: &Clause) -> Resu
 /// Those of one condition.
 fn push_ties(
     alloc: Global,
-    all: &mut Vec<(Path, Path)>,
-    lets: &[(u32, Path)],
+    all: &mut Vec<(StoodPath, StoodPath)>,
+    lets: &[(u32, StoodPath)],
     cond: &Comparison,
 ) -> Result<(), AllocError>
     ensures { OnOk result (all.new.items ≡ all.old.items ++ ties_of lets.now cond.now) }
@@ -68,8 +73,8 @@ fn push_ties(
 
 fn push_sides(
     alloc: Global,
-    all: &mut Vec<(Path, Path)>,
-    lets: &[(u32, Path)],
+    all: &mut Vec<(StoodPath, StoodPath)>,
+    lets: &[(u32, StoodPath)],
     op: CmpOp,
     left: &Path,
     right: &Right,
@@ -87,8 +92,8 @@ fn push_sides(
 
 fn push_both_ways(
     alloc: Global,
-    all: &mut Vec<(Path, Path)>,
-    lets: &[(u32, Path)],
+    all: &mut Vec<(StoodPath, StoodPath)>,
+    lets: &[(u32, StoodPath)],
     is_tie: bool,
     left: &Path,
     right: &Path,
@@ -124,15 +129,15 @@ fn is_equality(op: CmpOp) -> bool
 /// The first tie that leads to a variable which `FOR` binds to the nodes of a path from a document, and which the
 /// clauses to come don't bind again.
 pub fn tie_for<'a>(
-    all: &'a [(Path, Path)],
+    all: &'a [(StoodPath, StoodPath)],
     columns: &[(u32, u32)],
     var: u32,
-    start: &Start,
+    path: &StoodPath,
     later: &[Clause],
-) -> Option<&'a (Path, Path)>
-    ensures { option_map (λ tie. tie.now) result ≡ tie_for all.now columns.now var start.now later.now }
+) -> Option<&'a (StoodPath, StoodPath)>
+    ensures { option_map (λ tie. tie.now) result ≡ tie_for all.now columns.now var path.now.start later.now }
 {
-    if !is_document(start) {
+    if path.variable().is_some() {
         return None;
     }
     if !is_free(var, later) {
@@ -147,30 +152,33 @@ pub fn tie_for<'a>(
 }
 
 /// Whether the tie leads from an earlier variable to this one.
-fn leads_to(columns: &[(u32, u32)], var: u32, later: &[Clause], tie: &(Path, Path)) -> bool
+fn leads_to(
+    columns: &[(u32, u32)],
+    var: u32,
+    later: &[Clause],
+    tie: &(StoodPath, StoodPath),
+) -> bool
     ensures { result ≡ leads_to columns.now var later.now tie.now }
 {
-    starts_at(var, &tie.1.start) && starts_before(columns, var, later, &tie.0.start)
+    starts_at(var, &tie.1) && starts_before(columns, var, later, &tie.0)
 }
 
-fn starts_at(var: u32, start: &Start) -> bool
-    ensures { result ≡ starts_at var start.now }
+fn starts_at(var: u32, path: &StoodPath) -> bool
+    ensures { result ≡ starts_at var path.now.start }
 {
-    match start {
-        Start::Document(_) => false,
-        Start::Var(other) => var == *other,
+    match path.variable() {
+        None => false,
+        Some(other) => var == other,
     }
 }
 
 /// Whether it is another variable that has a column already, and that the clauses to come don't bind.
-fn starts_before(columns: &[(u32, u32)], var: u32, later: &[Clause], start: &Start) -> bool
-    ensures { result ≡ starts_before columns.now var later.now start.now }
+fn starts_before(columns: &[(u32, u32)], var: u32, later: &[Clause], path: &StoodPath) -> bool
+    ensures { result ≡ starts_before columns.now var later.now path.now.start }
 {
-    match start {
-        Start::Document(_) => false,
-        Start::Var(other) => {
-            *other != var && has_column(*other, columns) && is_free(*other, later)
-        }
+    match path.variable() {
+        None => false,
+        Some(other) => other != var && has_column(other, columns) && is_free(other, later),
     }
 }
 
@@ -203,14 +211,5 @@ fn binds(var: u32, clause: &Clause) -> bool
     match clause {
         Clause::For { var: other, .. } => var == *other,
         Clause::Let { .. } => false,
-    }
-}
-
-fn is_document(start: &Start) -> bool
-    ensures { result ≡ is_document start.now }
-{
-    match start {
-        Start::Document(_) => true,
-        Start::Var(_) => false,
     }
 }
