@@ -8,6 +8,7 @@ ghost use Rattle.tb_engine.specs.Calls.{IsOnePattern};
 
 use self::naive::{joined, rows};
 use self::random::{Dice, roll};
+use self::trees::by_trees;
 use crate::{Answer, EngineFault, answer};
 use std::alloc::Global;
 use std::slice;
@@ -27,6 +28,7 @@ use tb_tree::{Bytes, Items};
 mod naive;
 mod plans;
 mod random;
+mod trees;
 
 fn settings(order: OrderRule) -> Settings
     ensures allowed { AreAllowed result }
@@ -257,7 +259,8 @@ fn by_definition(alloc: Global, lines: &[u8], text: &[u8]) -> Result<Vec<Vec<u8>
     Ok(trees)
 }
 
-// Whether the answer of a random pattern over a random document is that of the definition.
+// Whether the answer of a random pattern over a random document is that of the definition, and so are the lines
+// of the trees that its witnesses have as nodes.
 fn is_same<R: Threads + Sync>(rt: &R, alloc: Global, dice: &mut Dice) -> Result<bool, Fail> {
     let lines = random::document(alloc, dice)?;
     let text = random::pattern(alloc, dice)?;
@@ -270,6 +273,9 @@ fn is_same<R: Threads + Sync>(rt: &R, alloc: Global, dice: &mut Dice) -> Result<
     let mut all = Vec::new(alloc);
     for tree in &trees {
         all.extend_from_slice(tree.as_slice())?;
+    }
+    if by_trees(rt, alloc, lines.as_slice(), text.as_slice())?.as_slice() != all.as_slice() {
+        return Ok(false);
     }
     Ok(answer.count == trees.len() as u64 && answer.text.as_slice() == all.as_slice())
 }

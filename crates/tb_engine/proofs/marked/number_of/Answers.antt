@@ -1,7 +1,7 @@
 -- Where no node has the number, the root is meant.
 use Rattle.std.proofs.Common.{arith}
 use Rattle.tb_tree.specs.View.{plain_of}
-use Rattle.tb_engine.proofs.NodeLaws.{root-past, root-before}
+use Rattle.tb_construct.proofs.RootLaws.{root-past, root-before}
 use Rattle.tb_engine.proofs.marked.number_of.Goals.{else-node-ge1-via-then-node-ge1+else-node-count, else-node-ge1-via-else-node-ge1}
 use Rattle.tb_engine.proofs.marked.number_of.Goals as goal
 

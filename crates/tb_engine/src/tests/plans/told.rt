@@ -3,9 +3,8 @@
 use std::alloc::{AllocError, Global};
 use tb_number::{AggKind, CmpOp, SortKey};
 use tb_pattern::Mark;
-use tb_query::Step;
 use tb_span::Axis;
-use tb_tlc::{ColumnStart, Op};
+use tb_tlc::{ColumnStart, Op, Steps};
 use tb_tree::{Against, Shape, ShapeAttr, ShapeContent, ShapeElem, ShapePart, Test};
 
 /// Each operator with `; ` behind it. `.3` is the column of number 3.
@@ -21,13 +20,7 @@ pub fn tell(alloc: Global, ops: &[Op]) -> Result<Vec<u8>, AllocError> {
 fn tell_op(alloc: Global, op: &Op, out: &mut Vec<u8>) -> Result<(), AllocError> {
     match op {
         Op::Match { .. } => out.extend_from_slice(b"match"),
-        Op::Select { start, steps, mark } => tell_select(
-            alloc,
-            start,
-            steps.as_slice(),
-            *mark,
-            out,
-        ),
+        Op::Select { start, steps, mark } => tell_select(alloc, start, steps, *mark, out),
         Op::Filter { left, op, right } => tell_filter(alloc, *left, *op, right, out),
         Op::ValueJoin { left, right } => tell_join(alloc, *left, *right, out),
         Op::Group { key } => tell_of(alloc, b"group ", *key, out),
@@ -47,7 +40,7 @@ fn tell_of(alloc: Global, word: &[u8], column: u32, out: &mut Vec<u8>) -> Result
 fn tell_select(
     alloc: Global,
     start: &ColumnStart,
-    steps: &[Step],
+    steps: &Steps,
     mark: Mark,
     out: &mut Vec<u8>,
 ) -> Result<(), AllocError> {
@@ -56,9 +49,11 @@ fn tell_select(
         ColumnStart::Document(name) => out.extend_from_slice(name.as_slice())?,
         ColumnStart::Column(column) => tell_column(alloc, *column, out)?,
     }
-    for step in steps {
-        out.extend_from_slice(axis(step.axis))?;
-        tell_test(&step.test, out)?;
+    for part in steps.parts() {
+        for step in part.as_slice() {
+            out.extend_from_slice(axis(step.axis))?;
+            tell_test(&step.test, out)?;
+        }
     }
     Ok(())
 }
