@@ -1,5 +1,5 @@
 -- The document that `find` gives the number of is the one that the meaning of queries has by that name.
-use Rattle.std.proofs.Common.{◌≡◌, ℕ, suc, ◌+◌, ◌<◌, ◌≤◌, Bool, true, false, not, cond, nat_lt, List, [], ◌∷◌, length, map, Option, Some, None, position, refl, sym, ap, ◌∙◌, arith}
+use Rattle.std.proofs.Common.{◌≡◌, ℕ, suc, ◌+◌, ◌<◌, Bool, true, false, not, cond, nat_lt, List, [], ◌∷◌, length, Option, Some, None, position, refl, ap, ◌∙◌, arith}
 use Rattle.std.specs.List.{position_or_len, slice_get}
 use Rattle.std.specs.Option.{option_map}
 use Rattle.std.specs.Str.{bytes_eq}
@@ -7,7 +7,6 @@ use Rattle.std.proofs.lemmas.Bool.{ltb-true, ltb-false}
 use Rattle.std.proofs.lemmas.List.{length-map}
 use Rattle.std.proofs.lemmas.Option.{slice_get_past}
 use Rattle.tb_tree.specs.Documents.{found}
-use Rattle.tb_tree.specs.Plain.{Plain}
 use Rattle.tb_tree.specs.View.{plain_of}
 use Rattle.tb_tree.specs.declared.node.Node.{Node}
 use Rattle.tb_table.specs.Documents.{names_of, roots_of, docs_of}

@@ -1,2 +1,3 @@
 pub mod DocumentLaws
 pub mod FoundLaws
+pub mod RowLaws

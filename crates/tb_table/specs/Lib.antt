@@ -1,2 +1,4 @@
--- Documents by name and by number.
+-- Documents by name and by number, and tables as rows.
 pub mod Documents
+pub mod Rows
+pub mod Layout
