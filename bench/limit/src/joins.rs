@@ -145,7 +145,12 @@ fn trim(edges: &[Edge], links: &mut [Vec<Link>]) {
 
 /// The links that lead from a node.
 pub fn run_of(links: &[Link], node: u32) -> &[Link] {
-    let rest = &links[links.partition_point(|link| link.above < node)..];
+    let rest = &links[start_of(links, node)..];
     let end = rest.iter().take_while(|link| link.above == node).count();
     &rest[..end]
+}
+
+/// Where those begin that lead from a node or a later one.
+pub fn start_of(links: &[Link], node: u32) -> usize {
+    links.partition_point(|link| link.above < node)
 }

@@ -14,25 +14,44 @@ pub enum Mark {
     Any,
 }
 
-/// An edge: the node above it, 0 for the document node and e + 1 for the lower end of edge e; and the name and
-/// the least number that its own lower end must have.
+/// An edge: the node above it, 0 for the document node and e + 1 for the lower end of edge e; the name and the
+/// least number that its own lower end must have; and whether that is shown whole.
 pub struct Edge {
     pub up: usize,
     pub axis: Axis,
     pub mark: Mark,
     pub name: &'static [u8],
     pub least: Option<i64>,
+    pub whole: bool,
 }
 
 const fn edge(up: usize, axis: Axis, mark: Mark, name: &'static [u8], least: Option<i64>) -> Edge {
-    Edge { up, axis, mark, name, least }
+    Edge { up, axis, mark, name, least, whole: false }
+}
+
+const fn whole(edge: Edge) -> Edge {
+    Edge { whole: true, ..edge }
 }
 
 /// `(//- book (/- year [>= 1960], /+ author !))`
 pub const LIBRARY: &[Edge] = &[
     edge(0, Axis::Descendant, Mark::One, b"book", None),
     edge(1, Axis::Child, Mark::One, b"year", Some(1960)),
-    edge(1, Axis::Child, Mark::Some, b"author", None),
+    whole(edge(1, Axis::Child, Mark::Some, b"author", None)),
+];
+
+/// `(//- book (/- year [>= 1960], /+ author !, /- publisher))`
+pub const EMPTY: &[Edge] = &[
+    edge(0, Axis::Descendant, Mark::One, b"book", None),
+    edge(1, Axis::Child, Mark::One, b"year", Some(1960)),
+    whole(edge(1, Axis::Child, Mark::Some, b"author", None)),
+    edge(1, Axis::Child, Mark::One, b"publisher", None),
+];
+
+/// `(//- sec (//- fig))`
+pub const SECTIONS: &[Edge] = &[
+    edge(0, Axis::Descendant, Mark::One, b"sec", None),
+    edge(1, Axis::Descendant, Mark::One, b"fig", None),
 ];
 
 /// `(//- a (//- b (//- c), /? d))`

@@ -57,4 +57,33 @@ impl Store {
         let extent = &self.document.extents[number as usize - 1];
         &self.document.text[extent.from as usize..extent.to as usize]
     }
+    pub fn name(&self, number: u32) -> &[u8] {
+        &self.document.elements[self.document.extents[number as usize - 1].name as usize]
+    }
+
+    /// The lines of the attributes of an element.
+    pub fn attribute_lines(&self, number: u32) -> &[u8] {
+        &self.printed(number)[..self.attributes_len(number)]
+    }
+
+    /// The lines of an element between its start and its end.
+    pub fn content_lines(&self, number: u32) -> &[u8] {
+        let lines = self.printed(number);
+        let line = self.name(number).len() + 2;
+        &lines[self.attributes_len(number) + line..lines.len() - line]
+    }
+
+    /// Whether the last kid of an element is a text.
+    pub fn ends_with_text(&self, number: u32) -> bool {
+        let extents = &self.document.extents;
+        let element = &extents[number as usize - 1];
+        let last = &extents[element.last as usize - 1];
+        last.kind == Kind::Text && last.level == element.level + 1
+    }
+
+    fn attributes_len(&self, number: u32) -> usize {
+        let attributes = self.document.extents[number as usize..].iter().take_while(|extent| extent.kind == Kind::Attribute);
+        let from = self.document.extents[number as usize - 1].from;
+        attributes.last().map_or(0, |extent| extent.to - from) as usize
+    }
 }

@@ -2,9 +2,10 @@
 //!
 //! It reads a document on standard input, labels it, and joins its elements `part` with its elements `item`.
 //! With the word `join` it times one join of the elements that two further words name, with the word `match` the
-//! pattern and the order of edges of two further words. With the word `script` it
-//! reads a script instead, and puts its commands in order. What it found goes to standard output, and how long
-//! each call took, in nanoseconds, to standard error.
+//! pattern and the order of edges of two further words, and with the word `answer` the answer of the pattern of one
+//! further word. With the word `script` it reads a script instead, and puts its commands in order; with the word
+//! `plan` it reads one query, and makes its plan. What it found goes to standard output, and how long each call
+//! took, in nanoseconds, to standard error.
 #![tactic(auto)]
 
 ghost use Rattle.std.specs.Prelude.{◌≡◌, ◌^◌, ◌<◌, ◌≤◌, IfOk, IfSome};
@@ -24,12 +25,16 @@ use tb_span::Axis;
 use tb_stackjoin::By;
 use tb_tree::{Bytes, Kind, Test, Tree};
 
+mod answer;
 mod join;
 mod patterns;
+mod plan;
 mod script;
 
+use answer::time_answer;
 use join::{is_word, time_lists, time_one_join};
 use patterns::time_match;
+use plan::time_plan;
 use script::time_script;
 
 /// Bytes of a document or a script at most.
@@ -44,6 +49,9 @@ fn main(rt: HostRuntime) -> io::Result<ExitCode> {
     if is_word(&rt, 1, "script")? {
         return time_script(&rt, &lines);
     }
+    if is_word(&rt, 1, "plan")? {
+        return time_plan(&rt, &lines);
+    }
     let Some(tree) = time_read(&rt, lines)? else {
         return Ok(ExitCode::FAILURE);
     };
@@ -55,6 +63,10 @@ fn main(rt: HostRuntime) -> io::Result<ExitCode> {
     if is_word(&rt, 1, "match")? {
         let store = time_label(&rt, tree)?;
         return time_match(&rt, &rt, &store);
+    }
+    if is_word(&rt, 1, "answer")? {
+        let store = time_label(&rt, tree)?;
+        return time_answer(&rt, &rt, store);
     }
     tell_text(&rt, &tree)?;
     let store = time_label(&rt, tree)?;

@@ -69,8 +69,8 @@ pub fn time_match<R: Threads + Sync>(
     Ok(ExitCode::SUCCESS)
 }
 
-/// The pattern of the first word behind `match`.
-fn pattern_of(rt: &HostRuntime) -> io::Result<Option<Pattern>>
+/// The pattern of the word behind the first.
+pub fn pattern_of(rt: &HostRuntime) -> io::Result<Option<Pattern>>
     ensures { IfOk result (λ read. IfSome read (λ p. edge_count (edges_of p.edges) ≤ 64)) }
 {
     let Some(word) = env::args(rt)?.nth(2) else {
