@@ -1,115 +1,21 @@
-//! `tb_deep`: reads the deepest and the longest queries on a thread with the smallest stack, of 128 KiB.
+//! `tb_deep`: reads the deepest and the longest queries on a thread with the smallest stack, of 128 KiB, and
+//! answers the deepest patterns over the deepest document on one with a stack of 1 MiB.
 //!
 //! The gate runs it as a compiled program. A query has up to 65,536 bytes, and all of its syntax is
 //! read before deep nesting is told, so a reader that called itself once a bracket or a tag would run
 //! out of this stack.
 #![tactic(auto)]
 
-use std::alloc::{AllocError, Global};
 use std::io;
-use std::sync::Wait;
-use std::thread::{self, Builder, Threads};
-use tb_flwor::{QueryFault, read_query};
-use tb_query::Query;
 
-/// A query that opens one thing many times, and closes it, or not.
-#[derive(Clone, Copy)]
-struct Shape {
-    prefix: &'static str,
-    opening: &'static str,
-    closing: &'static str,
-}
+mod answer;
+mod reading;
+mod text;
 
-const PATTERN: Shape = Shape {
-    prefix: "MATCH document('d') ",
-    opening: "(/-a",
-    closing: ")",
-};
-
-const CONSTRUCTOR: Shape = Shape {
-    prefix: "FOR $x IN document('d')//a RETURN ",
-    opening: "<a>",
-    closing: "</a>",
-};
-
-const PATH: Shape = Shape {
-    prefix: "FOR $x IN document('d')//a RETURN $x",
-    opening: "/a",
-    closing: "",
-};
-
-/// What reading a query gave.
-#[derive(Debug, Drop)]
-enum Told {
-    Refused(QueryFault),
-    /// So many edges stand at the document node.
-    Match(usize),
-    /// So many clauses come first.
-    Clauses(usize),
-}
+use answer::tell_answers;
+use reading::tell_reading;
 
 fn main(rt: HostRuntime) -> io::Result<()> {
-    // As many as 65,536 bytes have room for, and each limit from both sides.
-    for (shape, opened, closed) in [
-        (PATTERN, 16_379, 0),
-        (PATTERN, 13_103, 13_103),
-        (PATTERN, 33, 33),
-        (PATTERN, 32, 32),
-        (CONSTRUCTOR, 21_834, 0),
-        (CONSTRUCTOR, 9_357, 9_357),
-        (CONSTRUCTOR, 33, 33),
-        (CONSTRUCTOR, 32, 32),
-        (PATH, 32_750, 0),
-        (PATH, 64, 0),
-        (PATH, 63, 0),
-    ] {
-        let text = nested(rt.alloc(), shape, opened, closed)?;
-        let told = on_small_stack(&rt, rt.alloc(), &text)?;
-        println!(rt;
-            "{} {opened} times, {closed} closed, {} bytes: {told:?}",
-            shape.opening,
-            text.len()
-        )?;
-    }
-    Ok(())
-}
-
-/// A query of the shape, with so many opened, and so many closed.
-fn nested(
-    alloc: Global,
-    shape: Shape,
-    opened: usize,
-    closed: usize,
-) -> Result<Vec<u8>, AllocError> {
-    let mut text = Vec::new(alloc);
-    text.extend_from_slice(shape.prefix.as_bytes())?;
-    for _turn in 0..opened {
-        text.extend_from_slice(shape.opening.as_bytes())?;
-    }
-    for _turn in 0..closed {
-        text.extend_from_slice(shape.closing.as_bytes())?;
-    }
-    Ok(text)
-}
-
-/// Reads the query on a thread with the smallest stack.
-fn on_small_stack<R: Threads + Wait + Sync>(
-    rt: &R,
-    alloc: Global,
-    text: &[u8],
-) -> io::Result<Told> {
-    thread::scope(thread::scope_env(), rt, |scope| {
-        let reader = Builder::new()
-            .stack_size(1)
-            .spawn_scoped(scope, || read(alloc, text))?;
-        Ok(reader.join(rt))
-    })
-}
-
-fn read(alloc: Global, text: &[u8]) -> Told {
-    match read_query(alloc, text) {
-        Ok(Query::Match(pattern)) => Told::Match(pattern.edges.as_slice().len()),
-        Ok(Query::Flwor(flwor)) => Told::Clauses(flwor.clauses.as_slice().len()),
-        Err(fault) => Told::Refused(fault),
-    }
+    tell_reading(&rt, &rt)?;
+    tell_answers(&rt, &rt)
 }
