@@ -2,25 +2,23 @@
 
 ghost use Rattle.std.specs.Prelude.{◌≡◌, ◌≤◌, IfOk};
 ghost use Rattle.tb_pattern.specs.View.{edges_of};
-ghost use Rattle.tb_pattern.specs.Plain.{nodes_in};
+ghost use Rattle.tb_plan.specs.Orders.{edge_count};
 ghost use Rattle.tb_engine.specs.Calls.{IsOnePattern};
 
+use crate::document::documents;
 use crate::text::push_times;
 use std::alloc::{AllocError, Global};
 use std::io::{self, ErrorKind};
-use std::sync::{Arc, Wait};
+use std::sync::Wait;
 use std::thread::{self, Builder, Threads};
 use tb_edge::OpenGate;
 use tb_engine::{Answer, EngineFault, answer};
-use tb_esis::read_tree;
 use tb_flwor::read_query;
-use tb_label::Store;
 use tb_parjoin::{OrderRule, Settings};
 use tb_pattern::Pattern;
 use tb_query::Query;
 use tb_table::Documents;
 use tb_tlc::{Plan, translate};
-use tb_tree::Bytes;
 
 /// Of the thread that answers.
 const STACK: usize = 1024 * 1024;
@@ -111,28 +109,6 @@ fn size_of_answer<R: Threads + Sync>(rt: &R, alloc: Global, nest: Nest) -> io::R
     })
 }
 
-/// The deepest document, of 512 levels: 478 elements `a` inside each other, and in them 34 elements `b`.
-fn documents(alloc: Global) -> io::Result<Documents> {
-    let mut lines = Vec::new(alloc);
-    push_times(&mut lines, "(a\n", 478)?;
-    push_times(&mut lines, "(b\n", 34)?;
-    push_times(&mut lines, ")b\n", 34)?;
-    push_times(&mut lines, ")a\n", 478)?;
-    let store = store(alloc, &lines)?;
-    let mut docs = Documents::empty(alloc);
-    let name = Bytes::from_vec(b"d".to_vec(alloc)?);
-    docs.add(name, Arc::new(alloc, store)?)?;
-    Ok(docs)
-}
-
-fn store(alloc: Global, lines: &[u8]) -> io::Result<Store> {
-    if lines.len() > 4000 {
-        return Err(ErrorKind::InvalidData.into());
-    }
-    let tree = read_tree(alloc, lines).map_err(|_fault| ErrorKind::InvalidData)?;
-    Ok(Store::build(alloc, tree)?)
-}
-
 fn query_text(alloc: Global, nest: Nest) -> Result<Vec<u8>, AllocError> {
     let mut text = Vec::new(alloc);
     text.extend_from_slice(b"MATCH document('d') (")?;
@@ -154,7 +130,7 @@ fn push_edges(text: &mut Vec<u8>, sign: &str, edge: &str, times: usize) -> Resul
 }
 
 fn pattern(alloc: Global, text: &[u8]) -> io::Result<Pattern>
-    ensures { IfOk result (λ p. nodes_in (edges_of p.edges) ≤ 64) }
+    ensures { IfOk result (λ p. edge_count (edges_of p.edges) ≤ 64) }
 {
     match read_query(alloc, text) {
         Ok(Query::Match(pattern)) => Ok(pattern),
@@ -168,7 +144,7 @@ fn answered<R: Threads + Sync>(
     pattern: Pattern,
     docs: &Documents,
 ) -> Result<Answer, AllocError>
-    requires { nodes_in (edges_of pattern.edges) ≤ 64 }
+    requires { edge_count (edges_of pattern.edges) ≤ 64 }
 {
     let plan = planned(alloc, pattern)?;
     match answer(rt, alloc, &plan, docs, &SETTINGS, &OpenGate) {
@@ -179,7 +155,7 @@ fn answered<R: Threads + Sync>(
 }
 
 fn planned(alloc: Global, pattern: Pattern) -> Result<Plan, AllocError>
-    requires { nodes_in (edges_of pattern.edges) ≤ 64 }
+    requires { edge_count (edges_of pattern.edges) ≤ 64 }
     ensures { IfOk result (λ plan. IsOnePattern plan.ops) }
 {
     let query = Query::Match(pattern);

@@ -9,6 +9,7 @@
 use std::io;
 
 mod answer;
+mod document;
 mod reading;
 mod text;
 
