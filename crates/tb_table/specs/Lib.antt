@@ -1,4 +1,5 @@
--- Documents by name and by number, and tables as rows.
+-- Documents by name and by number, and tables as rows, and as the meaning of plans has them.
 pub mod Documents
 pub mod Rows
 pub mod Layout
+pub mod Seen
