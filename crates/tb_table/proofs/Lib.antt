@@ -1,3 +1,5 @@
 pub mod DocumentLaws
 pub mod FoundLaws
+pub mod NodeLaws
 pub mod RowLaws
+pub mod TransposedLaws

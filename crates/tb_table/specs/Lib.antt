@@ -3,3 +3,5 @@ pub mod Documents
 pub mod Rows
 pub mod Layout
 pub mod Seen
+pub mod PrintedValues
+pub mod Texts

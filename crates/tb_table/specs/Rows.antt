@@ -58,3 +58,11 @@ kept marks xs = []
 abbrev pub positions_of : ℕ → List Bool → List ℕ
 positions_of n [] = []
 positions_of n (m ∷ marks) = if m then n ∷ positions_of (n + 1) marks else positions_of (n + 1) marks
+
+-- the cells of a column, from the rows
+abbrev pub column_at : ℕ → List (List Cell) → List Cell
+column_at column rows = map (λ row. get_or row column no_cell) rows
+
+-- the cells of a row in these columns
+abbrev pub cells_at : List (List Cell) → ℕ → List ℕ → List Cell
+cells_at rows row columns = map (λ column. get_or (get_or rows row []) column no_cell) columns

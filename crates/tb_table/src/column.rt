@@ -4,7 +4,7 @@ ghost use Rattle.std.specs.Prelude.{◌≡◌, ◌<◌, ◌≤◌, All, get_or, 
 ghost use Rattle.tb_table.specs.Layout.{single, listed, valued, cells_of, AreWithin, IsWithin};
 ghost use Rattle.tb_table.specs.Rows.{no_cell, cell_of, picked};
 
-use crate::gather::{copies_of, picked_of};
+use crate::gather::{copies, copies_of, picked_of};
 use crate::parts::{Parts, Span, span_of};
 use crate::{Cell, CellRef, NodeRef};
 use std::alloc::{AllocError, Global};
@@ -97,6 +97,14 @@ impl Column {
         }
     }
 
+    /// The same cells once more; cells that share nodes share the copies.
+    pub fn copy(&self, alloc: Global) -> Result<Column, AllocError>
+        ensures { IfOk result (λ column. column ≡ self.now) }
+    {
+        let parts = copied(alloc, &self.parts)?;
+        Ok(Column { parts })
+    }
+
     /// The cells of these rows, in this order. No node and no byte of a span is copied.
     pub fn gather(self, alloc: Global, picks: &[usize]) -> Result<Column, AllocError>
         requires { All (λ p. p < length self) picks.now }
@@ -105,6 +113,33 @@ impl Column {
         let Column { parts } = self;
         let parts = gathered(alloc, parts, picks)?;
         Ok(Column { parts })
+    }
+}
+
+fn copied(alloc: Global, parts: &Parts) -> Result<Parts, AllocError>
+    requires within { IsWithin parts.now }
+    ensures cells { IfOk result (λ r. cells_of r ≡ cells_of parts.now) }
+    ensures within { IfOk result IsWithin }
+{
+    match parts {
+        Parts::Single(nodes) => {
+            let nodes = nodes.as_slice().to_vec(alloc)?;
+            Ok(Parts::Single(nodes))
+        }
+        Parts::Lists { spans, nodes } => {
+            let spans = spans.as_slice().to_vec(alloc)?;
+            let nodes = nodes.as_slice().to_vec(alloc)?;
+            Ok(Parts::Lists { spans, nodes })
+        }
+        Parts::Values { spans, bytes } => {
+            let spans = spans.as_slice().to_vec(alloc)?;
+            let bytes = bytes.as_slice().to_vec(alloc)?;
+            Ok(Parts::Values { spans, bytes })
+        }
+        Parts::Mixed(cells) => {
+            let cells = copies(alloc, cells.as_slice())?;
+            Ok(Parts::Mixed(cells))
+        }
     }
 }
 

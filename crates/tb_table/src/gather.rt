@@ -18,6 +18,17 @@ pub fn picked_of<T: Copy>(alloc: Global, items: &[T], picks: &[usize]) -> Result
     Ok(picked)
 }
 
+/// Copies of all these cells, in order.
+pub fn copies(alloc: Global, cells: &[Cell]) -> Result<Vec<Cell>, AllocError>
+    ensures { IfOk result (λ r. r.items ≡ cells.now) }
+{
+    let mut copies = Vec::with_capacity(alloc, cells.len())?;
+    'cells: for cell in cells {
+        copies.push(cell.lent().copy(alloc)?)?;
+    }
+    Ok(copies)
+}
+
 /// Copies of the cells of these numbers, in this order.
 pub fn copies_of(alloc: Global, cells: &[Cell], picks: &[usize]) -> Result<Vec<Cell>, AllocError>
     requires { All (λ p. p < length cells.now) picks.now }

@@ -12,16 +12,21 @@ mod gather;
 mod name;
 mod node_ref;
 mod parts;
+mod printed;
+mod rows;
 mod secret;
 mod table;
+mod text;
 
 pub use cell::{Cell, CellRef, Row};
 pub use column::Column;
 pub use documents::Documents;
 pub use node_ref::NodeRef;
 pub use parts::Span;
+pub use printed::Printed;
 pub use secret::Secret;
 pub use table::Table;
+pub use text::Text;
 
 #[cfg(test)]
 mod tests;

@@ -71,6 +71,17 @@ impl Table {
         Ok(())
     }
 
+    /// The same rows once more.
+    pub fn copy(&self, alloc: Global) -> Result<Table, AllocError>
+        ensures { IfOk result (λ table. table ≡ self.now) }
+    {
+        let mut columns = Vec::with_capacity(alloc, self.columns.len())?;
+        'columns: for column in &self.columns {
+            columns.push(column.copy(alloc)?)?;
+        }
+        Ok(table_from(self.count, columns))
+    }
+
     /// The rows of these numbers, in this order; a number may come several times.
     pub fn gather(self, alloc: Global, picks: &[usize]) -> Result<Table, AllocError>
         requires { All (λ p. p < length self.rows) picks.now }
@@ -114,7 +125,8 @@ impl Table {
     }
 }
 
-fn table_from(count: usize, columns: Vec<Column>) -> Table
+/// The table of these columns, each of so many cells.
+pub fn table_from(count: usize, columns: Vec<Column>) -> Table
     requires { AreEven count columns.items }
     ensures { result ≡ table_of count columns.items }
 {
