@@ -2,4 +2,5 @@ pub mod DocumentLaws
 pub mod FoundLaws
 pub mod NodeLaws
 pub mod RowLaws
+pub mod SeenRows
 pub mod TransposedLaws
