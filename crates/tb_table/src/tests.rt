@@ -1,5 +1,7 @@
 //! What no clause says: that documents are added with ample memory.
 
+mod tables;
+
 use crate::{Documents, Secret};
 use std::alloc::Global;
 use std::sync::Arc;
