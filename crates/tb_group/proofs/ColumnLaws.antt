@@ -1,5 +1,5 @@
 -- A column of aggregates, row by row, is that of all rows.
-use Rattle.std.proofs.Common.{◌≡◌, ℕ, zero, suc, ◌+◌, ◌<◌, ◌≤◌, List, [], ◌∷◌, ◌++◌, map, length, get_or, drop, Option, Some, None, refl, sym, ap, ◌∙◌, subst, arith, add-one, drop-cons, append_assoc, append-nil}
+use Rattle.std.proofs.Common.{◌≡◌, ℕ, suc, ◌+◌, ◌<◌, ◌≤◌, List, [], ◌∷◌, ◌++◌, map, length, get_or, drop, Option, Some, None, refl, sym, ap, ◌∙◌, subst, add-one, drop-cons, append_assoc, append-nil}
 use Rattle.std.specs.Prelude.{All}
 use Rattle.std.specs.Option.{option_map, option_and_then}
 use Rattle.std.proofs.lemmas.List.{map_push, length-map, drop_all}
@@ -11,7 +11,7 @@ use Rattle.tb_number.specs.declared.agg.AggKind.{AggKind}
 use Rattle.tb_query.specs.Lists.{all_given}
 use Rattle.tb_query.specs.Operators.{cell_aggregate, aggregated}
 use Rattle.tb_table.specs.declared.cell.Cell.{Cell}
-use Rattle.tb_table.specs.declared.cell.Cell.TheVariants.{Nodes, Value}
+use Rattle.tb_table.specs.declared.cell.Cell.TheVariants.{Value}
 use Rattle.tb_table.specs.declared.parts.Span.{Span}
 use Rattle.tb_table.specs.Layout.{AreWithin, valued}
 use Rattle.tb_table.specs.Rows.{no_cell, with_cells}

@@ -1,12 +1,11 @@
 -- The least and the greatest number are those that are kept one value after the other.
-use Rattle.std.proofs.Common.{◌≡◌, ℕ, suc, ◌+◌, ◌<◌, ◌≤◌, Bool, true, false, cond, List, [], ◌∷◌, ◌++◌, length, drop, get_or, map, Option, Some, None, ℤ, pos, negsuc, refl, sym, ap, ◌∙◌, arith, Less, Equal, Greater, Ordering, add-one, drop-cons, append-nil}
+use Rattle.std.proofs.Common.{◌≡◌, ℕ, suc, ◌+◌, ◌<◌, ◌≤◌, Bool, true, false, List, [], ◌∷◌, ◌++◌, length, drop, get_or, Option, Some, None, ℤ, refl, sym, ap, ◌∙◌, Equal, add-one, drop-cons, append-nil}
 use Rattle.std.specs.Prelude.{int_lt}
 use Rattle.std.specs.List.{fold}
 use Rattle.std.specs.Int.{int_min, int_max}
 use Rattle.std.specs.Ordering.{int_cmp}
 use Rattle.std.specs.Option.{option_map}
-use Rattle.tb_number.specs.Canonical.{decimal_text, canonical_text}
-use Rattle.tb_number.specs.Comparison.{holds}
+use Rattle.tb_number.specs.Canonical.{canonical_text}
 use Rattle.tb_number.specs.Reading.{integer_of}
 use Rattle.tb_number.specs.declared.op.CmpOp.{CmpOp}
 use Rattle.tb_number.specs.declared.op.CmpOp.TheVariants.{Lt, Gt}

@@ -1,14 +1,14 @@
 -- The first values of a column, one row after the other.
-use Rattle.std.proofs.Common.{◌≡◌, ℕ, suc, ◌+◌, ◌<◌, ◌≤◌, List, [], ◌∷◌, ◌++◌, map, length, get_or, drop, Option, Some, None, refl, sym, ap, ◌∙◌, arith, add-one, drop-cons, append_assoc, append-nil}
+use Rattle.std.proofs.Common.{◌≡◌, ℕ, ◌+◌, ◌<◌, List, [], ◌∷◌, ◌++◌, length, get_or, drop, Option, Some, None, refl, sym, ap, ◌∙◌, add-one, drop-cons, append_assoc}
 use Rattle.std.specs.Option.{option_map}
-use Rattle.std.proofs.lemmas.List.{map_push, drop_all}
+use Rattle.std.proofs.lemmas.List.{map_push}
 use Rattle.tb_tree.specs.Documents.{Docs}
 use Rattle.tb_tree.specs.Rows as plain
 use Rattle.tb_query.specs.Operands.{first_of}
 use Rattle.tb_table.specs.declared.cell.Cell.{Cell}
 use Rattle.tb_table.specs.declared.text.Text.{Text}
 use Rattle.tb_table.specs.Rows.{no_cell}
-use Rattle.tb_table.specs.Seen.{cell_seen, row_seen, first_value}
+use Rattle.tb_table.specs.Seen.{cell_seen, first_value}
 use Rattle.tb_table.specs.Texts.{text_of}
 use Rattle.tb_table.proofs.SeenRows.{cell-seen}
 use Rattle.tb_group.specs.Firsts.{texts_of, first_at, firsts}

@@ -6,3 +6,4 @@ pub mod ColumnLaws
 pub mod SortLaws
 pub mod FirstLaws
 pub mod OrderLaws
+pub mod TestLaws

@@ -1,15 +1,14 @@
 -- Rows that are sorted by what the program keeps of their keys are in the order that is meant.
-use Rattle.std.proofs.Common.{◌≡◌, ℕ, ◌+◌, ◌<◌, ◌≤◌, Bool, true, false, List, [], ◌∷◌, ◌++◌, map, length, get_or, Option, Some, None, refl, sym, ap, ap₂, ◌∙◌, subst, arith, Less, Equal, Greater, Ordering}
+use Rattle.std.proofs.Common.{◌≡◌, ℕ, ◌+◌, ◌<◌, Bool, true, false, List, [], ◌∷◌, ◌++◌, map, length, get_or, Option, refl, sym, ap, ap₂, ◌∙◌, subst, arith, Less, Equal, Greater, Ordering}
 use Rattle.std.specs.Prelude.{All}
 use Rattle.std.specs.Global.{Vec}
 use Rattle.std.specs.List.{range_with_len}
 use Rattle.std.specs.List.Sorted.{IsPermutation}
-use Rattle.std.specs.Ordering.{ordering_then, ordering_reverse, is_gt}
+use Rattle.std.specs.Ordering.{ordering_then}
 use Rattle.std.specs.Option.{option_map}
 use Rattle.std.specs.Cmp.Lexicographic.{slice_cmp}
 use Rattle.std.proofs.Math.ListN as anywhere
 use Rattle.std.proofs.lemmas.List.{get_or-map, length-map, map-append, map-id}
-use Rattle.std.proofs.lemmas.List.Elements.{All-map}
 use Rattle.std.proofs.lemmas.List.Sorted.{All-permutation}
 use Rattle.std.proofs.lemmas.Simd.{map-map}
 use Rattle.tb_tree.proofs.lists.Ranges.{range_join, All-range}
@@ -19,9 +18,8 @@ use Rattle.tb_number.specs.Keys.{sorted_as, sorted_cmp}
 use Rattle.tb_number.specs.declared.sort_key.SortKey.{SortKey}
 use Rattle.tb_number.proofs.KeyLaws.{sorted_cmp-total}
 use Rattle.tb_query.specs.Lists.{sorted}
-use Rattle.tb_query.specs.Operands.{first_of}
-use Rattle.tb_query.specs.Operators.{values_at, row_keys, ordered_rows}
-use Rattle.tb_query.specs.Order.{SortValue, sort_cmp, sort_values_cmp}
+use Rattle.tb_query.specs.Operators.{row_keys, ordered_rows}
+use Rattle.tb_query.specs.Order.{sort_cmp, sort_values_cmp}
 use Rattle.tb_query.proofs.GroupLaws.{all-numbered}
 use Rattle.tb_table.specs.declared.cell.Cell.{Cell}
 use Rattle.tb_table.specs.declared.text.Text.{Text}
@@ -30,7 +28,7 @@ use Rattle.tb_table.specs.Seen.{row_seen, rows_seen, AreOver, IsOver}
 use Rattle.tb_table.specs.Texts.{text_of}
 use Rattle.tb_table.proofs.RowLaws.{all-picked}
 use Rattle.tb_group.specs.Firsts.{texts_of, first_at, firsts}
-use Rattle.tb_group.specs.Parts.{SortPart, part_of, part_cmp, KeyedRow, keyed_cmp, parts_at, keyed_at}
+use Rattle.tb_group.specs.Parts.{part_of, part_cmp, KeyedRow, keyed_cmp, parts_at, keyed_at}
 use Rattle.tb_group.specs.Ordered.{key_columns, columns_of, AreLong}
 use Rattle.tb_group.proofs.SortLaws.{sorted-map}
 use mathlib.Core.Path.{fun_ext}

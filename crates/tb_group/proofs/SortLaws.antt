@@ -1,5 +1,5 @@
 -- A stable sort gives the sorted list: lists in order in which the same items are tied in one order are one list.
-use Rattle.std.proofs.Common.{◌≡◌, ℕ, zero, suc, ◌+◌, ◌<◌, ◌≤◌, Bool, true, false, not, ◌&&◌, cond, List, [], ◌∷◌, map, length, get_or, refl, sym, ap, ap₂, ◌∙◌, subst, arith, add-one, Less, Equal, Greater, Ordering}
+use Rattle.std.proofs.Common.{◌≡◌, suc, ◌+◌, Bool, true, false, not, ◌&&◌, cond, List, [], ◌∷◌, map, refl, sym, ap, ap₂, ◌∙◌, subst, arith, Less, Equal, Greater, Ordering}
 use Rattle.std.specs.Bool.{⊤}
 use Rattle.std.specs.Cmp.{IsTotalOrder, upto, tied_itself}
 use Rattle.std.specs.List.{AllByRecursion, filter}

@@ -1,5 +1,5 @@
 -- A sum, one value after the other.
-use Rattle.std.proofs.Common.{◌≡◌, ℕ, List, [], ◌∷◌, Option, Some, None, ℤ, refl, sym, ap, ◌∙◌}
+use Rattle.std.proofs.Common.{◌≡◌, ℕ, List, [], ◌∷◌, Option, Some, None, ℤ, refl, ap}
 use Rattle.std.specs.Option.{option_and_then}
 use Rattle.tb_number.specs.Range.{sum_with, sum_from}
 use Rattle.tb_number.specs.Reading.{integer_of}

@@ -18,3 +18,6 @@ mod told;
 pub use aggregates::aggregate;
 pub use fault::GroupFault;
 pub use orders::order;
+
+#[cfg(test)]
+mod tests;

@@ -1,6 +1,5 @@
 -- The rows of the numbers in order.
-use Rattle.std.proofs.Common.{[], ap, sym, ◌∙◌, subst, length}
-use Rattle.std.specs.Prelude.{All}
+use Rattle.std.proofs.Common.{[], ap, sym, ◌∙◌, subst}
 use Rattle.tb_table.specs.Documents.{docs_of}
 use Rattle.tb_table.specs.Rows.{picked}
 use Rattle.tb_table.specs.Seen.{rows_seen, AreOver}

@@ -1,10 +1,10 @@
 -- What is sorted is in order.
-use Rattle.std.proofs.Common.{◌≡◌, map, length, sym, ap, ◌∙◌, subst, arith}
+use Rattle.std.proofs.Common.{◌≡◌, map, length, sym, ap, ◌∙◌, subst}
 use Rattle.std.specs.List.{range_with_len}
 use Rattle.std.specs.List.Sorted.{IsPermutation}
 use Rattle.tb_query.specs.Lists.{sorted}
 use Rattle.tb_table.specs.Documents.{docs_of}
-use Rattle.tb_group.specs.Ordered.{columns_of, key_columns, AreLong}
+use Rattle.tb_group.specs.Ordered.{columns_of, AreLong}
 use Rattle.tb_group.specs.Parts.{keyed_at, keyed_cmp}
 use Rattle.tb_group.specs.PartOrder.{keyed_total}
 use Rattle.tb_group.proofs.SortLaws.{stable-sorted}
